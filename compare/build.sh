@@ -1,0 +1,35 @@
+#!/bin/bash
+# Builds the crate and the oracle, with the crate's checks on and without them, by rustc alone.
+#   build.sh CRATE_SOURCE OUT [VENDOR]
+# CRATE_SOURCE has src/lib.rs. Into OUT/checked and OUT/unchecked go the libraries and `oracle`.
+# Over the stand-ins of compare/standin/, or over the real bitflags and itoa in the folder VENDOR.
+set -euo pipefail
+[ $# -ge 2 ] || { echo "usage: build.sh CRATE_SOURCE OUT [VENDOR]" >&2; exit 2; }
+here=$(dirname "$0")
+crate=$1/src/lib.rs
+out=$2
+bitflags=$here/standin/bitflags.rs
+itoa=$here/standin/itoa.rs
+if [ $# -ge 3 ]; then
+  bitflags=$(echo "$3"/bitflags-*/src/lib.rs)
+  itoa=$(echo "$3"/itoa-*/src/lib.rs)
+fi
+
+# The metadata keeps the two builds of a library apart in a program that links both.
+build() { # profile, rustc's flags
+  local profile=$1 dir=$out/$1
+  shift
+  mkdir -p "$dir"
+  library() { # name, source
+    rustc --crate-name "$1" --crate-type rlib --edition 2021 --cap-lints allow \
+      -C metadata="$profile" "${@:3}" -L "$dir" --out-dir "$dir" "$2"
+  }
+  library bitflags "$bitflags" "$@"
+  library itoa "$itoa" "$@"
+  library msvc_demangler "$crate" "$@" \
+    --extern bitflags="$dir/libbitflags.rlib" --extern itoa="$dir/libitoa.rlib"
+  rustc --crate-name oracle --edition 2021 -D warnings "$@" -L "$dir" \
+    --extern msvc_demangler="$dir/libmsvc_demangler.rlib" -o "$dir/oracle" "$here/src/oracle.rs"
+}
+build checked -C opt-level=2 -C debug-assertions=on -C overflow-checks=on
+build unchecked -C opt-level=3

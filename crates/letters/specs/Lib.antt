@@ -1,0 +1,4 @@
+pub mod StorageClass
+pub mod FuncClass
+pub mod Classes
+pub mod Operators

@@ -1,0 +1,37 @@
+-- The numbers that the scope marks to be proved, as one table and one statement. Assumes nothing.
+use Prim.Native.Nat.{ℕ}
+use Prim.Native.String.{String}
+use mathlib.Core.Path.{_≡_, refl}
+use mathlib.Core.List.{List, [], _∷_, map}
+use lib.IntN.{ℤ, pos, negsuc}
+use mir.Syntax.{w32}
+use mir.Val.{toZ}
+use Rattle.scan.specs.Bytes.{bytes}
+use Rattle.scan.specs.Number.{readNumber, magnitude, letters}
+use Rattle.scan.specs.declared.cursor.Leaf.{Leaf}
+use Rattle.scan.specs.declared.cursor.Leaf.the-variants.{Value, Bad}
+
+-- a signed number, or the offset of the refusal
+data Outcome : Type 0 where
+  value : ℤ → Outcome
+  refused : ℕ → Outcome
+
+abbrev outcome : Leaf → Outcome
+outcome (Value v n) = value (toZ w32 v)
+outcome (Bad n) = refused n
+
+abbrev read : List (String × Outcome) → List Outcome
+read cases = map (λ c. outcome (readNumber (bytes (c .0)))) cases
+
+abbrev stated : List (String × Outcome) → List Outcome
+stated cases = map (λ c. c .1) cases
+
+abbrev numbers : List (String × Outcome)
+numbers =
+    ("0", value (pos 1)) ∷ ("9", value (pos 10)) ∷ ("?0", value (negsuc 0)) ∷ ("@", value (pos 0)) ∷ ("?@", value (pos 0))
+    ∷ ("BA@", value (pos 16)) ∷ ("?BA@", value (negsuc 15)) ∷ ("PPPPPPPP@", value (negsuc 0)) ∷ ("BAAAAAAAA@", value (pos 0))
+    ∷ ("?IAAAAAAA@", value (negsuc 2147483647)) ∷ ("B0@", refused 0) ∷ ("A", refused 0) ∷ []
+
+cases : read numbers ≡ stated numbers
+unfolding readNumber magnitude letters
+cases = refl

@@ -1,0 +1,5 @@
+pub mod Bytes
+pub mod Cursor
+pub mod Number
+pub mod Cases
+pub mod Name

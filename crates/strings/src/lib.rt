@@ -1,0 +1,2 @@
+// Encoded strings of a symbol: one definition decodes a character.
+pub mod encoded;
