@@ -1,6 +1,6 @@
 //! The product's leaves, by the one function of its static library.
 
-#[link(name = "leaf_call", kind = "static")]
+#[link(name = "leaf_export", kind = "static")]
 extern "C" {
     fn farthingmoss_leaf(
         leaf: u32,

@@ -1,9 +1,7 @@
 -- The leaves by number, in the order of the port. Assumes nothing: these are definitions.
 use Prim.Native.Nat.{ℕ}
 use mathlib.Core.List.{List, [], _∷_}
-use lib.ListN.{length, getD, set}
-use lib.Dec.{ltb}
-use Rattle.scan.specs.Bytes.{pick}
+use lib.ListN.{getD}
 use Rattle.scan.specs.Cursor.{getByte, readDigit, readHexDigit}
 use Rattle.scan.specs.Name.{readString, readHexDigits, readMd5Name}
 use Rattle.scan.specs.Number.{readNumber, readUnsigned, readGuardNumber}
@@ -32,7 +30,3 @@ replies r =
 -- no such leaf is 7, as an unknown flag is
 unfoldable pub leafReply : ℕ → List ℕ → Reply
 leafReply leaf r = getD (replies r) leaf (refusal 7 0)
-
--- the reply in the first four places, where there are four
-abbrev pub written : Reply → List ℕ → List ℕ
-written a out = pick (ltb (length out) 4) out (set (set (set (set out 0 (a .number)) 1 (a .taken)) 2 (a .value)) 3 (a .start))

@@ -1,10 +1,10 @@
-// Every leaf of `scan` by number, with one shape of answer, for programs and for callers in C or Rust.
+// Every leaf by number, with one shape of answer.
 pub mod reply;
 pub mod starts;
 
 ghost use mathlib.Core.Path.{_≡_};
 ghost use lib.ListN.{drop};
-ghost use Rattle.leaf_call.specs.Replies.{leafReply, written};
+ghost use Rattle.leaf_call.specs.Replies.{leafReply};
 use reply::Reply;
 
 // The leaf of this number, read at a place of the symbol.
@@ -41,19 +41,4 @@ pub fn call_leaf(leaf: u32, s: &[u8], at: usize) -> Reply
         26 => starts::of_type_head(forms::types::type_letter(s, at)),
         _ => reply::refused(7, 0),
     }
-}
-
-// The same for callers in other languages: number, bytes taken, value and start go into the first four places of `out`.
-#[no_mangle]
-pub extern "C" fn farthingmoss_leaf(leaf: u32, s: &[u8], at: usize, out: &mut [u64])
-    ensures { λ _. ⌜ now (out .exit) ≡ written (leafReply leaf (drop at (now (s .entry)))) (now (out .entry)) ⌝ }
-{
-    if out.len() < 4 {
-        return;
-    }
-    let reply = call_leaf(leaf, s, at);
-    out[0] = reply.number as u64;
-    out[1] = reply.taken as u64;
-    out[2] = reply.value as u64;
-    out[3] = reply.start as u64;
 }

@@ -1,12 +1,12 @@
--- `leaf_call::farthingmoss_leaf` meets its contract.
+-- `leaf_export::farthingmoss_leaf` meets its contract.
 -- Assumes nothing.
 use native.Mathlib.Omega.{arith}
 use mathlib.Core.Path.{sym}
 use lib.ListN.{length-set}
 use borrow.Author.Tests.{lt-ltb, le-ltb}
 use borrow.Author.Needs.{needs}
-use Rattle.leaf_call.proofs.farthingmoss_leaf.Statement.{statement}
-use Rattle.leaf_call.proofs.farthingmoss_leaf.Tie as tie
+use Rattle.leaf_export.proofs.farthingmoss_leaf.Statement.{statement}
+use Rattle.leaf_export.proofs.farthingmoss_leaf.Tie as tie
 
 returns : tie.Need-returns
 returns c = rw (lt-ltb _ _ (c .if1 .taken))
