@@ -7,7 +7,7 @@ set -euo pipefail
 [ $# -eq 4 ] || { echo "usage: standins.sh CRATE_SOURCE OUT LISTS VENDOR" >&2; exit 2; }
 here=$(dirname "$0")
 crate=$1 out=$2 lists=$3 vendor=$4
-flag_words=(0 0xE00400 0x1000 0x1FFFFFF)
+flag_words=(0 0x1FFFFFF)
 work=$out/standins
 mkdir -p "$work"
 rm -f "$work"/heavy.*

@@ -4,7 +4,7 @@ ghost use mathlib.Core.List.{List, _∷_};
 ghost use Prim.Native.Nat.{ℕ, _+_, _<_, _^_};
 ghost use lib.ListN.{drop};
 ghost use Rattle.forms.specs.Types.{startIf, typeStart, head, typeLetter, digitBehind, typeReference};
-use letters::classes::read_qualifier;
+use letters::read_qualifier;
 use scan::cursor::Found;
 use scan::cursor::consume;
 use scan::cursor::read_digit;

@@ -9,7 +9,7 @@ use Rattle.scan.specs.declared.cursor.Leaf.{Leaf}
 use Rattle.scan.specs.declared.cursor.Leaf.the-variants as leaf
 use Rattle.strings.specs.declared.encoded.Encoded.{Encoded}
 use Rattle.strings.specs.declared.encoded.Encoded.the-variants as encoded
-use Rattle.letters.specs.declared.classes.Class.{Class}
+use Rattle.letters.specs.declared.Class.{Class}
 use Rattle.leaf_call.specs.declared.reply.Reply.{Reply}
 
 abbrev pub accepted : ℕ → ℕ → Reply

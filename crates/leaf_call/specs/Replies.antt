@@ -7,7 +7,7 @@ use Rattle.scan.specs.Name.{readString, readHexDigits, readMd5Name}
 use Rattle.scan.specs.Number.{readNumber, readUnsigned, readGuardNumber}
 use Rattle.strings.specs.Encoded.{character, readEncodedString}
 use Rattle.letters.specs.Classes.{readCallingConv, readFuncClass, readStorageClass, readQualifier, readStorageClassForReturn, readFuncQualifiers, readStringWidth, readGuardMarker}
-use Rattle.letters.specs.Operators.{readOperator}
+use Rattle.operators.specs.Operators.{readOperator}
 use Rattle.forms.specs.Types.{typeStart, typeLetter, typeReference}
 use Rattle.forms.specs.Begins.{parseStart, symbolStart, nameStart}
 use Rattle.leaf_call.specs.declared.reply.Reply.{Reply}

@@ -1,7 +1,7 @@
 // One shape for every leaf's answer.
 ghost use mathlib.Core.Path.{_≡_};
 ghost use Rattle.leaf_call.specs.Answers.{accepted, refusal, ofFound, ofSpan, ofLeaf, ofClass, ofEncoded};
-use letters::classes::Class;
+use letters::Class;
 use scan::cursor::Found;
 use scan::cursor::Leaf;
 use scan::cursor::Span;

@@ -11,7 +11,7 @@ use lib.Seq.{drop-drop}
 use lib.Dec.{eqb}
 use Rattle.scan.specs.Bytes.{pick, bytes, starts, spelled, upTo}
 use Rattle.letters.specs.Classes.{class, _then_, optional, refQualifier, readQualifier}
-use Rattle.letters.specs.declared.classes.Class.{Class}
+use Rattle.letters.specs.declared.Class.{Class}
 
 -- a run of n `get`s takes n bytes where they are there
 pub upTo-one : (c : ℕ) (r : List ℕ) → upTo 1 (c ∷ r) ≡ 1

@@ -11,7 +11,7 @@ use Rattle.letters.specs.StorageClass.{CONST, VOLATILE, FAR, UNALIGNED, 
 use Rattle.letters.specs.FuncClass as func
 use Rattle.scan.specs.declared.cursor.Leaf.{Leaf}
 use Rattle.scan.specs.declared.cursor.Leaf.the-variants.{Value, Bad}
-use Rattle.letters.specs.declared.classes.Class.{Class}
+use Rattle.letters.specs.declared.Class.{Class}
 
 abbrev pub Cdecl : ℕ
 Cdecl = 0

@@ -1,4 +1,3 @@
 pub mod StorageClass
 pub mod FuncClass
 pub mod Classes
-pub mod Operators
