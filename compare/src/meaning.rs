@@ -1,0 +1,177 @@
+//! Compares the product's equality of meaning with a plain recursion, on small random tables, and
+//! times it on towers that make a plain recursion exponential.
+use std::process::ExitCode;
+use std::time::{Duration, Instant};
+
+#[link(name = "meaning_export", kind = "static")]
+extern "C" {
+    fn farthingmoss_same(
+        table: *const u32,
+        table_len: usize,
+        symbol: *const u8,
+        symbol_len: usize,
+        r: usize,
+        q: usize,
+    ) -> bool;
+}
+
+const CELLS: usize = 12;
+const SLOWEST: Duration = Duration::from_millis(20);
+
+const TYPE_PLACE: u32 = 2;
+const SYMBOL: u32 = 4;
+const NON_TEMPLATE: u32 = 10;
+const TEMPLATE: u32 = 12;
+const CONSTANT_STRING: u32 = 27;
+const CLASS: u32 = 36;
+const INT: u32 = 45;
+const BYTES: [u32; 4] = [6, NON_TEMPLATE, 11, 15];
+
+fn same(table: &[u32], symbol: &[u8], r: usize, q: usize) -> bool {
+    // SAFETY: both slices live through the call, which only reads them, within their lengths.
+    unsafe { farthingmoss_same(table.as_ptr(), table.len(), symbol.as_ptr(), symbol.len(), r, q) }
+}
+
+/// The byte of the encoded character that begins here, and the bytes it takes.
+fn character(bytes: &[u8]) -> Option<(u8, usize)> {
+    match *bytes {
+        [c @ (b'0'..=b'9' | b'a'..=b'z' | b'A'..=b'Z' | b'_' | b'$'), ..] => Some((c, 1)),
+        [b'?', c @ b'A'..=b'Z', ..] => Some((c - b'A' + 225, 2)),
+        [b'?', c @ b'a'..=b'z', ..] => Some((c - b'a' + 225, 2)),
+        [b'?', c @ b'0'..=b'9', ..] => Some((b",/\\:. \n\t'-"[usize::from(c - b'0')], 2)),
+        [b'?', b'$', high @ b'A'..=b'P', low @ b'A'..=b'P', ..] => {
+            Some(((high - b'A') * 16 + (low - b'A'), 4))
+        }
+        _ => None,
+    }
+}
+
+fn decoded(mut bytes: &[u8]) -> Vec<u8> {
+    let mut text = Vec::new();
+    while let Some((byte, taken)) = character(bytes) {
+        text.push(byte);
+        bytes = &bytes[taken..];
+    }
+    text
+}
+
+/// What a node is without its references: kind, numbers, bytes.
+fn own(cells: &[u32], symbol: &[u8]) -> (u32, Vec<u32>, Vec<u8>) {
+    let start = cells[7] as usize;
+    let bytes = symbol.get(start..start + cells[8] as usize).unwrap_or(&[]);
+    match cells[0] {
+        CONSTANT_STRING => (cells[0], cells[9..11].to_vec(), decoded(bytes)),
+        kind if BYTES.contains(&kind) => (kind, cells[9..11].to_vec(), bytes.to_vec()),
+        kind => (kind, cells[7..11].to_vec(), Vec::new()),
+    }
+}
+
+/// The plain recursion: a reference is a node's number and one, and names an earlier node or nothing.
+fn plainly_same(table: &[u32], symbol: &[u8], r: usize, q: usize) -> bool {
+    if r == 0 || q == 0 {
+        return r == q;
+    }
+    let (a, b) = (&table[(r - 1) * CELLS..r * CELLS], &table[(q - 1) * CELLS..q * CELLS]);
+    let kid = |cells: &[u32], n: usize, j: usize| match cells[j] as usize {
+        reference if reference < n => reference,
+        _ => 0,
+    };
+    own(a, symbol) == own(b, symbol)
+        && (4..7).all(|j| plainly_same(table, symbol, kid(a, r, j), kid(b, q, j)))
+}
+
+/// A small generator with a fixed seed, so that each run tries the same tables.
+struct Random(u64);
+
+impl Random {
+    fn below(&mut self, bound: u32) -> u32 {
+        self.0 = self.0.wrapping_mul(6364136223846793005).wrapping_add(1442695040888963407);
+        (self.0 >> 33) as u32 % bound
+    }
+}
+
+fn random_table(random: &mut Random, nodes: u32) -> Vec<u32> {
+    const KINDS: [u32; 6] = [TYPE_PLACE, NON_TEMPLATE, CONSTANT_STRING, CLASS, INT, 0];
+    let mut table = Vec::new();
+    for n in 0..nodes {
+        let kind = KINDS[random.below(6) as usize];
+        // Now and then a reference to the node itself or behind it, which means nothing.
+        let references = [0; 3].map(|_| random.below(n + 2));
+        let numbers = [0; 4].map(|_| random.below(4) * random.below(2));
+        table.extend([kind, 0, 0, 0].iter().chain(&references).chain(&numbers).chain(&[0]));
+    }
+    table
+}
+
+fn random_tables_differ(tables: usize) -> bool {
+    let symbols: [&[u8]; 4] = [b"aa?$GBaa", b"a?$GBa?0", b"?aa?Aa?$", b""];
+    let mut random = Random(1);
+    let (mut compared, mut equal) = (0usize, 0usize);
+    for _ in 0..tables {
+        let nodes = 2 + random.below(8);
+        let table = random_table(&mut random, nodes);
+        let symbol = symbols[random.below(4) as usize];
+        for (r, q) in (0..=nodes as usize).flat_map(|r| (0..=r).map(move |q| (r, q))) {
+            let plainly = plainly_same(&table, symbol, r, q);
+            compared += 1;
+            equal += usize::from(plainly && r != q);
+            if same(&table, symbol, r, q) != plainly {
+                println!("meaning: references {r} and {q} differ in {table:?} of {symbol:?}");
+                return true;
+            }
+        }
+    }
+    println!(
+        "meaning: {compared} pairs in {tables} random tables as by a plain recursion, \
+         {equal} of different nodes equal"
+    );
+    false
+}
+
+/// A class whose template arguments are `width` times the tower below it; its reference.
+fn tower(table: &mut Vec<u32>, levels: usize, width: usize) -> u32 {
+    let mut node = |kind: u32, a: u32, b: u32, numbers: [u32; 2]| {
+        table.extend([kind, 0, 0, 0, a, b, 0, numbers[0], numbers[1], 0, 0, 0]);
+        (table.len() / CELLS) as u32
+    };
+    let mut top = node(INT, 0, 0, [0, 0]);
+    for _ in 0..levels {
+        let name = node(NON_TEMPLATE, 0, 0, [0, 1]);
+        let list = (0..width).fold(0, |before, _| node(TYPE_PLACE, before, top, [0, 0]));
+        let template = node(TEMPLATE, name, list, [0, 0]);
+        let symbol = node(SYMBOL, template, 0, [0, 0]);
+        top = node(CLASS, symbol, 0, [0, 0]);
+    }
+    top
+}
+
+/// A list of so many places of one entry; its reference.
+fn list(table: &mut Vec<u32>, places: usize) -> u32 {
+    let mut before = 0;
+    table.extend([INT, 0, 0, 0, 0, 0, 0, 0, 0, 0, 0, 0]);
+    let entry = (table.len() / CELLS) as u32;
+    for _ in 0..places {
+        table.extend([TYPE_PLACE, 0, 0, 0, before, entry, 0, 0, 0, 0, 0, 0]);
+        before = (table.len() / CELLS) as u32;
+    }
+    before
+}
+
+/// Whether the comparison of two equal things, built apart in one table, is slow or says no.
+fn is_slow(what: &str, build: impl Fn(&mut Vec<u32>) -> u32) -> bool {
+    let mut table = Vec::new();
+    let (r, q) = (build(&mut table) as usize, build(&mut table) as usize);
+    let start = Instant::now();
+    let equal = same(&table, b"a", r, q);
+    let time = start.elapsed();
+    println!("meaning: two {what} compared in {time:.1?}");
+    !equal || time > SLOWEST
+}
+
+fn main() -> ExitCode {
+    let failed = random_tables_differ(20_000)
+        | is_slow("towers of 60 levels, two references each", |t| tower(t, 60, 2))
+        | is_slow("towers of 60 levels, four references each", |t| tower(t, 60, 4))
+        | is_slow("lists of 4,000 places", |t| list(t, 4_000));
+    ExitCode::from(u8::from(failed))
+}

@@ -1,0 +1,6 @@
+pub mod Below
+pub mod Trees
+pub mod Compare
+pub mod Union
+pub mod Decoded
+pub mod Own

@@ -1,0 +1,108 @@
+-- What nodes hold themselves. Assumes nothing.
+use Prim.Native.Nat.{ℕ, suc, _+_, _-_, _≤_, _<_}
+use mathlib.Core.Bool.{Bool, true, false, _&&_}
+use mathlib.Core.Path.{_≡_, refl, ap, _∙_}
+use mathlib.Core.List.{List, [], _∷_}
+use native.Mathlib.Omega.{arith}
+use lib.Dec.{eqb}
+use lib.ListN.{length, getD, take, drop}
+use borrow.Author.Tests.{eq-eqb, ne-eqb, le-leb, lt-leb, eqb-true}
+use Rattle.node.specs.Cells.{cellOf}
+use Rattle.scan.proofs.Laws.{split, past}
+use Rattle.meaning.specs.Tree.{part, decoded, contentOf, numbersOf, bytesOf, eqList, eqOwn, eqContent}
+
+-- the bytes of a name
+pub part-in : (l : List ℕ) (s n : ℕ) → s + n ≤ length l → take (s + n - s) (drop s l) ≡ part l s n
+unfolding part
+part-in l s n h = let e : s + n - s ≡ n = omega arith in rw (e, le-leb _ _ h)
+
+pub part-out : (l : List ℕ) (s n : ℕ) → length l < s + n → [] ≡ part l s n
+unfolding part
+part-out l s n h = rw (lt-leb _ _ h)
+
+-- two lists, from the i-th on
+module _ (a b : List ℕ) (i : ℕ) where
+  abbrev pub rest : Bool
+  rest = eqList (drop i a) (drop i b)
+
+  pub rest-end : length a ≤ i → length b ≤ i → rest ≡ true
+  unfolding eqList
+  rest-end h g = rw (past a i h, past b i g)
+
+  module _ (h : i < length a) (g : i < length b) where
+    pub rest-same : getD a i 0 ≡ getD b i 0 → rest ≡ eqList (drop (i + 1) a) (drop (i + 1) b)
+    unfolding eqList
+    rest-same e = rw (split a i h, split b i g, eq-eqb _ _ e)
+
+    pub rest-other : (getD a i 0 ≡ getD b i 0 → ⊥) → rest ≡ false
+    unfolding eqList
+    rest-other e = rw (split a i h, split b i g, ne-eqb _ _ e)
+
+pub length-other : (x y : List ℕ) → (length x ≡ length y → ⊥) → eqList x y ≡ false
+unfolding eqList
+length-other [] [] n = absurd (n refl)
+length-other [] (y ∷ ys) n = refl
+length-other (x ∷ xs) [] n = refl
+length-other (x ∷ xs) (y ∷ ys) n = ap (λ b. eqb x y && b) (length-other xs ys (λ e. n (ap suc e))) ∙ none (eqb x y)
+  where
+    none : (b : Bool) → b && false ≡ false
+    none true = refl
+    none false = refl
+
+-- what the first two numbers of two nodes of one kind say
+module _ (t s : List ℕ) (i j : ℕ) where
+  pub content-numbers : contentOf (cellOf t i 0) ≡ 0 → eqContent t s i j ≡ eqb (cellOf t i 7) (cellOf t j 7) && eqb (cellOf t i 8) (cellOf t j 8)
+  unfolding eqContent
+  content-numbers z = rw (eq-eqb (contentOf (cellOf t i 0)) 0 z)
+
+  module _ (k : cellOf t i 0 ≡ cellOf t j 0) (z : contentOf (cellOf t i 0) ≡ 0 → ⊥) where
+    pub content-bytes :
+        contentOf (cellOf t i 0) ≡ 1 → eqContent t s i j ≡ eqList (part s (cellOf t i 7) (cellOf t i 8)) (part s (cellOf t j 7) (cellOf t j 8))
+    unfolding eqContent bytesOf
+    content-bytes e = rw (← k, ne-eqb (contentOf (cellOf t i 0)) 0 z, eq-eqb (contentOf (cellOf t i 0)) 1 e)
+
+    pub content-string :
+        (contentOf (cellOf t i 0) ≡ 1 → ⊥)
+        → eqContent t s i j ≡ eqList (decoded (part s (cellOf t i 7) (cellOf t i 8))) (decoded (part s (cellOf t j 7) (cellOf t j 8)))
+    unfolding eqContent bytesOf
+    content-string e = rw (← k, ne-eqb (contentOf (cellOf t i 0)) 0 z, ne-eqb (contentOf (cellOf t i 0)) 1 e)
+
+and-all : (a b : Bool) → (a && (b && true)) && true ≡ a && b
+and-all true true = refl
+and-all true false = refl
+and-all false b = refl
+
+-- two nodes, cell by cell
+module _ (t s : List ℕ) (i j : ℕ) where
+  pub own-0 : eqb (cellOf t i 0) (cellOf t j 0) ≡ false → eqOwn t s i j ≡ false
+  unfolding eqOwn
+  own-0 e = rw e
+
+  module _ (e0 : eqb (cellOf t i 0) (cellOf t j 0) ≡ true) where
+    pub own-9 : eqb (cellOf t i 9) (cellOf t j 9) ≡ false → eqOwn t s i j ≡ false
+    unfolding eqOwn numbersOf eqList
+    own-9 e = rw (e0, e)
+
+    module _ (e9 : eqb (cellOf t i 9) (cellOf t j 9) ≡ true) where
+      pub own-10 : eqb (cellOf t i 10) (cellOf t j 10) ≡ false → eqOwn t s i j ≡ false
+      unfolding eqOwn numbersOf eqList
+      own-10 e = rw (e0, e9, e)
+
+      module _ (e10 : eqb (cellOf t i 10) (cellOf t j 10) ≡ true) where
+        kind : cellOf t i 0 ≡ cellOf t j 0
+        kind = eqb-true _ _ e0
+
+        own-numbers : eqb (contentOf (cellOf t i 0)) 0 ≡ true → eqOwn t s i j ≡ eqContent t s i j
+        unfolding eqOwn eqContent numbersOf bytesOf eqList
+        own-numbers z = rw (e0, e9, e10, ← kind, z) (and-all (eqb (cellOf t i 7) (cellOf t j 7)) (eqb (cellOf t i 8) (cellOf t j 8)))
+
+        own-bytes : eqb (contentOf (cellOf t i 0)) 0 ≡ false → eqOwn t s i j ≡ eqContent t s i j
+        unfolding eqOwn eqContent numbersOf eqList
+        own-bytes z = rw (e0, e9, e10, ← kind, z)
+
+        pub own-content : eqOwn t s i j ≡ eqContent t s i j
+        own-content = pick (eqb (contentOf (cellOf t i 0)) 0) refl
+          where
+            pick : (b : Bool) → eqb (contentOf (cellOf t i 0)) 0 ≡ b → eqOwn t s i j ≡ eqContent t s i j
+            pick true z = own-numbers z
+            pick false z = own-bytes z

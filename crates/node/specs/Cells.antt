@@ -1,0 +1,23 @@
+-- A node is twelve cells of the table. Assumes nothing: these are definitions.
+--     0 kind, 1 height, 2 and 3 kept for the bytes it was read from, 4 to 6 references (a node's number and one, 0 for none), 7 to 10 numbers, 11 zero
+use Prim.Native.Nat.{ℕ, _+_, _*_, _/_}
+use mathlib.Core.List.{List, [], _∷_, _++_}
+use lib.ListN.{length, getD, take, drop}
+use lib.Dec.{ltb}
+use mathlib.Core.Bool.{cond}
+use Rattle.node.specs.declared.Node.{Node}
+
+-- how many whole nodes there is room for; a shorter tail is neither read nor written
+abbrev pub nodes : List ℕ → ℕ
+nodes t = length t / 12
+
+-- cell j of node n; 0 where there is none
+unfoldable pub cellOf : List ℕ → ℕ → ℕ → ℕ
+cellOf t n j = cond (ltb n (nodes t)) (cond (ltb j 12) (getD t (n * 12 + j) 0) 0) 0
+
+abbrev pub cells : Node → List ℕ
+cells x = x .kind ∷ x .height ∷ 0 ∷ 0 ∷ x .a ∷ x .b ∷ x .c ∷ x .p ∷ x .q ∷ x .r ∷ x .s ∷ 0 ∷ []
+
+-- the table with x as its node n; unchanged where there is no room for it
+unfoldable pub stored : List ℕ → ℕ → Node → List ℕ
+stored t n x = cond (ltb n (nodes t)) (take (n * 12) t ++ cells x ++ drop (n * 12 + 12) t) t
