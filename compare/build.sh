@@ -31,5 +31,6 @@ build() { # profile, rustc's flags
   rustc --crate-name oracle --edition 2021 -D warnings "$@" -L "$dir" \
     --extern msvc_demangler="$dir/libmsvc_demangler.rlib" -o "$dir/oracle" "$here/src/oracle.rs"
 }
-build checked -C opt-level=2 -C debug-assertions=on -C overflow-checks=on
+build checked -C opt-level=2 -C debug-assertions=on -C overflow-checks=on &
 build unchecked -C opt-level=3
+wait $! # fails where the build in the background did

@@ -1,5 +1,6 @@
 -- What read_var_type begins with, in the order of its lines. Assumes nothing: these are definitions.
 use Prim.Native.Nat.{ℕ, _+_}
+use Prim.Native.String.{String}
 use mathlib.Core.List.{List, [], _∷_}
 use lib.ListN.{drop}
 use Rattle.scan.specs.Bytes.{pick, bytes, starts, spelled, upTo}
@@ -19,18 +20,19 @@ use Rattle.forms.specs.declared.types.Reference.the-variants.{Stored, Ab
 abbrev pub start : TypeForm → ℕ → TypeStart
 start f n = record { form = f; taken = n }
 
--- The prefixes. A `$` that begins none of them is passed over, and a letter follows (typeLetter); so it does behind `$$C` and its qualifier
-unfoldable pub typeStart : List ℕ → TypeStart
-typeStart r =
-    spelled start
-    (("W4", form.Enum) ∷ ("A6", form.FunctionRef) ∷ ("P6", form.FunctionPtr) ∷ ("P8", form.MemberFunctionPtr)
+-- The prefixes, in their order. A `$` that begins none of them is passed over, and a letter follows (typeLetter); so it does behind `$$C` and its qualifier
+abbrev pub typeForms : List (String × TypeForm)
+typeForms =
+    ("W4", form.Enum) ∷ ("A6", form.FunctionRef) ∷ ("P6", form.FunctionPtr) ∷ ("P8", form.MemberFunctionPtr)
     ∷ ("$0", form.Constant) ∷ ("$D", form.TemplateParameter) ∷ ("$$BY", form.Array) ∷ ("$$Q", form.RValueRef)
     ∷ ("$S", form.EmptyPack) ∷ ("$$V", form.EmptyPack) ∷ ("$$Z", form.EmptyPack) ∷ ("$$$V", form.EmptyPack)
     ∷ ("$$T", form.Nullptr) ∷ ("$$A6", form.Function) ∷ ("$$A8@@", form.QualifiedFunction) ∷ ("$$Y", form.Alias)
     ∷ ("$$C", form.Reclassed)
     ∷ ("$1", form.MemberPointer) ∷ ("$H", form.MemberPointer) ∷ ("$I", form.MemberPointer) ∷ ("$J", form.MemberPointer)
-    ∷ ("$", form.Plain) ∷ [])
-    (start form.Plain 0) r
+    ∷ ("$", form.Plain) ∷ []
+
+unfoldable pub typeStart : List ℕ → TypeStart
+typeStart r = spelled start typeForms (start form.Plain 0) r
 
 -- one prefix, of whose bytes the last ones are the literal
 abbrev pub startIf : List ℕ → List ℕ → TypeForm → ℕ → ℕ → TypeStart
@@ -39,11 +41,10 @@ startIf literal r f n other = pick (starts literal r) (start f n) (start form.Pl
 abbrev pub head : TypeLetter → ℕ → TypeHead
 head l n = record { letter = l; taken = n }
 
--- The letter. Basic types are numbered by their places in the crate's enum Type, from Void on. A digit is no letter: typeReference comes first
-unfoldable pub typeLetter : List ℕ → TypeHead
-typeLetter r =
-    spelled head
-    (("?", letter.Parameter) ∷ ("T", letter.Union) ∷ ("U", letter.Struct) ∷ ("V", letter.Class)
+-- The letters. Basic types are numbered by their places in the crate's enum Type, from Void on. A digit is no letter: typeReference comes first
+abbrev pub typeLetters : List (String × TypeLetter)
+typeLetters =
+    ("?", letter.Parameter) ∷ ("T", letter.Union) ∷ ("U", letter.Struct) ∷ ("V", letter.Class)
     ∷ ("A", letter.Ref) ∷ ("B", letter.VolatileRef)
     ∷ ("P", letter.Ptr) ∷ ("Q", letter.ConstPtr) ∷ ("R", letter.VolatilePtr) ∷ ("S", letter.ConstVolatilePtr)
     ∷ ("Y", letter.Array)
@@ -69,8 +70,10 @@ typeLetter r =
     ∷ ("_Q", letter.Basic 16)  -- Char8
     ∷ ("_S", letter.Basic 17)  -- Char16
     ∷ ("_U", letter.Basic 18)  -- Char32
-    ∷ [])
-    (head letter.Refused (upTo (pick (starts (bytes "_") r) 2 1) r)) r
+    ∷ []
+
+unfoldable pub typeLetter : List ℕ → TypeHead
+typeLetter r = spelled head typeLetters (head letter.Refused (upTo (pick (starts (bytes "_") r) 2 1) r)) r
 
 -- A stored type: a digit; `$` and a digit that begins no prefix; `$$C`, a qualifier or none, and a digit
 abbrev pub stored : ℕ → Found → Reference

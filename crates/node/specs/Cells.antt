@@ -1,9 +1,9 @@
 -- A node is twelve cells of the table. Assumes nothing: these are definitions.
 --     0 kind, 1 height, 2 and 3 kept for the bytes it was read from, 4 to 6 references (a node's number and one, 0 for none), 7 to 10 numbers, 11 zero
-use Prim.Native.Nat.{ℕ, _+_, _*_, _/_}
+use Prim.Native.Nat.{ℕ, _+_, _*_, _-_, _/_}
 use mathlib.Core.List.{List, [], _∷_, _++_}
 use lib.ListN.{length, getD, take, drop}
-use lib.Dec.{ltb}
+use lib.Dec.{ltb, eqb}
 use mathlib.Core.Bool.{cond}
 use Rattle.node.specs.declared.Node.{Node}
 
@@ -21,3 +21,7 @@ cells x = x .kind ∷ x .height ∷ 0 ∷ 0 ∷ x .a ∷ x .b ∷ x .c ∷ x .p 
 -- the table with x as its node n; unchanged where there is no room for it
 unfoldable pub stored : List ℕ → ℕ → Node → List ℕ
 stored t n x = cond (ltb n (nodes t)) (take (n * 12) t ++ cells x ++ drop (n * 12 + 12) t) t
+
+-- the height of what r names
+unfoldable pub heightAt : List ℕ → ℕ → ℕ
+heightAt t r = cond (eqb r 0) 0 (cellOf t (r - 1) 1)

@@ -118,7 +118,7 @@ fn damage(k: u32, old: u32) -> u32 {
 }
 
 fn put_verdict(table: &[u32]) {
-    if node::is_well_formed(table, 3) {
+    if form::is_well_formed(table, 3) {
         io::write_all(STDOUT_FILENO, b"1");
     } else {
         io::write_all(STDOUT_FILENO, b"0");

@@ -5,7 +5,7 @@ use mathlib.Core.Path.{sym}
 use native.Mathlib.Omega.{arith}
 use borrow.Author.Tests.{lt-ltb, le-ltb}
 use Rattle.node.specs.Cells.{cellOf}
-use Rattle.node.proofs.Formed.{room-end}
+use Rattle.node.proofs.Stores.{room-end}
 use borrow.Author.Needs.{needs}
 use Rattle.node.proofs.cell.Statement.{statement}
 use Rattle.node.proofs.cell.Tie as tie

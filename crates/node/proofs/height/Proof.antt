@@ -2,7 +2,7 @@
 -- Assumes nothing.
 use native.Mathlib.Omega.{arith}
 use borrow.Author.Tests.{eq-eqb, ne-eqb}
-use Rattle.node.specs.Form.{heightAt}
+use Rattle.node.specs.Cells.{heightAt}
 use borrow.Author.Needs.{needs}
 use Rattle.node.proofs.height.Statement.{statement}
 use Rattle.node.proofs.height.Tie as tie

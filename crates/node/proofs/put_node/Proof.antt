@@ -6,7 +6,7 @@ use lib.ListN.{length-set}
 use lib.Seq.{sets-eq}
 use borrow.Author.Tests.{lt-ltb, le-ltb}
 use Rattle.node.specs.Cells.{stored, cells}
-use Rattle.node.proofs.Formed.{room-end}
+use Rattle.node.proofs.Stores.{room-end}
 use Rattle.node.proofs.put_node.Statement.{statement}
 use Rattle.node.proofs.put_node.Tie as tie
 

@@ -1,0 +1,109 @@
+-- What a well-formed table is known for. Assumes nothing.
+use Prim.Native.Nat.{ℕ, zero, suc, _+_, _^_, _≤_, _<_}
+use mathlib.Core.Bool.{Bool, true, false, cond}
+use mathlib.Core.Path.{_≡_, refl, sym, ap, ap₂, _∙_}
+use mathlib.Core.List.{List, [], _∷_}
+use native.Mathlib.Numerals.{add-one}
+use native.Mathlib.Decide.{ℕ-discrete, decLe}
+use native.Mathlib.Omega.{arith}
+use lib.Dec.{ltb, eqb}
+use lib.ListN.{getD}
+use borrow.Author.Tests.{ltb-true, ne-eqb, lt-leb}
+use Rattle.node.specs.Cells.{cellOf}
+use Rattle.form.specs.Kinds.{shapes, shapeOf}
+use Rattle.form.specs.Form.{refOk, refsOk, nodeOk, wellFormed}
+
+true-false : {A : Type 0} → true ≡ false → A
+true-false e = let z : _≡_ {A = ℕ} 0 1 = cc in absurd (omega arith)
+
+cond-left : (a b : Bool) → cond a b false ≡ true → a ≡ true
+cond-left true b e = refl
+cond-left false b e = e
+
+cond-right : (a b : Bool) → cond a b false ≡ true → b ≡ true
+cond-right true b e = e
+cond-right false b e = true-false (sym e)
+
+cond-else : (a b : Bool) → cond a false b ≡ true → b ≡ true
+cond-else true b e = true-false (sym e)
+cond-else false b e = e
+
+-- each number of the shapes is a u32
+abbrev small : List ℕ → Bool
+small [] = true
+small (x ∷ xs) = cond (ltb x (2 ^ 32)) (small xs) false
+
+small-at : (xs : List ℕ) → small xs ≡ true → (i : ℕ) → getD xs i 0 < 2 ^ 32
+small-at [] e i = omega arith
+small-at (x ∷ xs) e zero = ltb-true x (2 ^ 32) (cond-left (ltb x (2 ^ 32)) (small xs) e)
+small-at (x ∷ xs) e (suc i) = small-at xs (cond-right (ltb x (2 ^ 32)) (small xs) e) i
+
+abbrev all-small : List (List ℕ) → Bool
+all-small [] = true
+all-small (row ∷ rows) = cond (small row) (all-small rows) false
+
+rows-small : (rows : List (List ℕ)) → all-small rows ≡ true → (k j : ℕ) → getD (getD rows k []) j 0 < 2 ^ 32
+rows-small [] e k j = omega arith
+rows-small (row ∷ rows) e zero j = small-at row (cond-left (small row) _ e) j
+rows-small (row ∷ rows) e (suc k) j = rows-small rows (cond-right (small row) _ e) k j
+
+pub shape-small : (kind j : ℕ) → getD (getD shapes kind []) j 0 < 2 ^ 32
+shape-small = rows-small shapes refl
+
+-- a reference that is right is at most the node's own number
+pub ref-le : (t : List ℕ) (n mask r : ℕ) → refOk t n mask r ≡ true → r ≤ n
+unfolding refOk
+ref-le t n mask r e = pick (decLe r n)
+  where
+    pick : Dec (r ≤ n) → r ≤ n
+    pick (yes h) = h
+    pick (no h) = true-false (sym e ∙ rw (ne-eqb r 0 (λ q. h (omega arith)), lt-leb r n (omega (arith, h))))
+
+-- a reference's test, from what the code read for it
+pub ref-reads : (t : List ℕ) (n j i : ℕ) {mask r kind : ℕ} {x : Bool} → x ≡ refOk t n mask r → mask ≡ shapeOf kind j → kind ≡ cellOf t n 0 → r ≡ cellOf t n i → x ≡ refOk t n (shapeOf (cellOf t n 0) j) (cellOf t n i)
+ref-reads t n j i e em ek er = e ∙ ap₂ (refOk t n) (em ∙ ap (λ k. shapeOf k j) ek) er
+
+three : (a b c : Bool) → cond a (cond b c false) false ≡ true → (a ≡ true) × (b ≡ true) × (c ≡ true)
+three true true c e = (refl, refl, e)
+three true false c e = true-false (sym e)
+three false b c e = true-false (sym e)
+
+refs-le : (t : List ℕ) (n : ℕ) → refsOk t n ≡ true → (cellOf t n 4 ≤ n) × (cellOf t n 5 ≤ n) × (cellOf t n 6 ≤ n)
+unfolding refsOk
+refs-le t n e =
+    let kind : ℕ = cellOf t n 0 in
+    let r = three (refOk t n (shapeOf kind 1) (cellOf t n 4)) (refOk t n (shapeOf kind 2) (cellOf t n 5)) (refOk t n (shapeOf kind 3) (cellOf t n 6)) e in (
+      ref-le t n (shapeOf kind 1) (cellOf t n 4) (r .0),
+      ref-le t n (shapeOf kind 2) (cellOf t n 5) (r .1),
+      ref-le t n (shapeOf kind 3) (cellOf t n 6) (r .2),
+    )
+
+ok-refs : (t : List ℕ) (len n : ℕ) → nodeOk t len n ≡ true → refsOk t n ≡ true
+unfolding nodeOk
+ok-refs t len n e = cond-left (refsOk t n) _ (cond-else (eqb (shapeOf (cellOf t n 0) 0) 0) _ e)
+
+-- the references of a well-formed node are at most its own number: what they name stands before it
+pub ok-refs-le : (t : List ℕ) (len n : ℕ) → nodeOk t len n ≡ true → (cellOf t n 4 ≤ n) × (cellOf t n 5 ≤ n) × (cellOf t n 6 ≤ n)
+ok-refs-le t len n e = refs-le t n (ok-refs t len n e)
+
+pub formed-more : (t : List ℕ) (len k : ℕ) → wellFormed t len k ≡ true → nodeOk t len k ≡ true → wellFormed t len (k + 1) ≡ true
+unfolding wellFormed
+formed-more t len k e f = rw add-one (rw e f)
+
+-- each node of a well-formed table
+pub formed-node : (t : List ℕ) (len k n : ℕ) → wellFormed t len k ≡ true → n < k → nodeOk t len n ≡ true
+unfolding wellFormed
+formed-node t len zero n e h = absurd (omega arith)
+formed-node t len (suc k) n e h = pick (ℕ-discrete n k) (formed-node t len k n)
+  where
+    pick : Dec (n ≡ k) → (wellFormed t len k ≡ true → n < k → nodeOk t len n ≡ true) → nodeOk t len n ≡ true
+    pick (yes q) f = ap (nodeOk t len) q ∙ cond-right (wellFormed t len k) (nodeOk t len k) e
+    pick (no q) f = f (cond-left (wellFormed t len k) (nodeOk t len k) e) (omega (arith, q))
+
+-- one node that is not well formed
+pub formed-not : (t : List ℕ) (len k n : ℕ) → n < k → nodeOk t len n ≡ false → wellFormed t len k ≡ false
+formed-not t len k n h e = pick (wellFormed t len k) refl
+  where
+    pick : (b : Bool) → wellFormed t len k ≡ b → wellFormed t len k ≡ false
+    pick true q = true-false (sym (formed-node t len k n q h) ∙ e)
+    pick false q = q
