@@ -1,0 +1,6 @@
+pub mod Program
+pub mod Words
+pub mod Kind
+pub mod Grammar
+pub mod Counts
+pub mod Worked

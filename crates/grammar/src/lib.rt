@@ -1,0 +1,20 @@
+// What the readers of the grammar carry: declared beside the language, so that contracts need no second copy.
+pub struct Memo {
+    pub names: [u16; 10],
+    pub types: [u16; 10],
+    pub names_len: u16,
+    pub types_len: u16,
+}
+
+pub struct State {
+    pub at: u16,
+    pub used: u16,
+    pub deep: u16,
+    pub memo: Memo,
+}
+
+pub enum Refusal {
+    Syntax,
+    Deep,
+    Full,
+}
