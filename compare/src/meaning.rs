@@ -90,10 +90,16 @@ impl Random {
     }
 }
 
+/// Nodes of a few kinds, half of them like an earlier one, so that many are equal.
 fn random_table(random: &mut Random, nodes: u32) -> Vec<u32> {
     const KINDS: [u32; 6] = [TYPE_PLACE, NON_TEMPLATE, CONSTANT_STRING, CLASS, INT, 0];
     let mut table = Vec::new();
     for n in 0..nodes {
+        if n > 0 && random.below(2) == 0 {
+            let earlier = random.below(n) as usize * CELLS;
+            table.extend_from_within(earlier..earlier + CELLS);
+            continue;
+        }
         let kind = KINDS[random.below(6) as usize];
         // Now and then a reference to the node itself or behind it, which means nothing.
         let references = [0; 3].map(|_| random.below(n + 2));
