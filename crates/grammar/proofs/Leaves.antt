@@ -32,7 +32,7 @@ use Rattle.forms.specs.Types.{stored, digitBehind, typeReference}
 use Rattle.forms.specs.declared.types.Reference.{Reference}
 use Rattle.forms.specs.declared.types.Reference.the-variants.{Stored, Absent}
 use Rattle.forms.proofs.Starts.{digit-at}
-use Rattle.letters.specs.Classes.{readCallingConv, funcClassLetter, adjusted, classed, readFuncClass, readStorageClass, readQualifier, readStorageClassForReturn, _then_, optional, refQualifier, readFuncQualifiers, readStringWidth, readGuardMarker}
+use Rattle.letters.specs.Classes.{conventions, funcClasses, returnClasses, storageClasses, stringWidths, guardMarkers, readCallingConv, funcClassLetter, adjusted, classed, readFuncClass, readStorageClass, readQualifier, readStorageClassForReturn, _then_, optional, refQualifier, readFuncQualifiers, readStringWidth, readGuardMarker}
 use Rattle.letters.specs.FuncClass as func
 use Rattle.letters.specs.StorageClass.{UNALIGNED, RESTRICT, PTR64}
 use Rattle.letters.specs.declared.Class.{Class}
@@ -194,25 +194,6 @@ md5-least r =
     pick-span (SpanLeast 1) (eqb (readHexDigits r) 32) _ (spans.Bad (readHexDigits r))
     (pick-span (SpanLeast 1) (starts (bytes "@") (drop 32 r)) (spans.Takes 33) (spans.Bad 32) (omega arith) tt) tt
 
--- letters. Their tables have no names there, so they stand here again
-abbrev conventions : List (String × ℕ)
-conventions = ("A", 0) ∷ ("B", 0) ∷ ("C", 1) ∷ ("E", 2) ∷ ("G", 3) ∷ ("I", 4) ∷ []
-
-abbrev functions : List (String × ℕ)
-functions = ("A", 4) ∷ ("B", 68) ∷ ("C", 20) ∷ ("D", 20) ∷ ("E", 36) ∷ ("F", 36) ∷ ("G", 164) ∷ ("H", 228) ∷ ("I", 2) ∷ ("J", 66) ∷ ("K", 18) ∷ ("L", 82) ∷ ("M", 34) ∷ ("N", 98) ∷ ("O", 162) ∷ ("P", 226) ∷ ("Q", 1) ∷ ("R", 65) ∷ ("S", 17) ∷ ("T", 81) ∷ ("U", 33) ∷ ("V", 97) ∷ ("W", 161) ∷ ("X", 225) ∷ ("Y", 8) ∷ ("Z", 72) ∷ []
-
-abbrev returned : List (String × ℕ)
-returned = ("?A", 0) ∷ ("?B", 1) ∷ ("?C", 2) ∷ ("?D", 3) ∷ []
-
-abbrev storages : List (String × ℕ)
-storages = ("A", 0) ∷ ("B", 1) ∷ ("C", 2) ∷ ("D", 3) ∷ ("E", 4) ∷ ("F", 5) ∷ ("G", 6) ∷ ("H", 7) ∷ ("Q", 0) ∷ ("R", 1) ∷ ("S", 2) ∷ ("T", 3) ∷ []
-
-abbrev widths : List (String × ℕ)
-widths = ("0", 1) ∷ ("1", 2) ∷ []
-
-abbrev markers : List (String × ℕ)
-markers = ("4IA", 0) ∷ ("5", 1) ∷ []
-
 pub calling-conv-fits : (r : List ℕ) → Fits (length r) (readCallingConv r)
 unfolding readCallingConv
 calling-conv-fits r = value-fits conventions (Bad (upTo 1 r)) r (omega arith)
@@ -223,11 +204,11 @@ calling-conv-least r = value-least 1 conventions (Bad (upTo 1 r)) r refl tt
 
 letter-fits : (r : List ℕ) → Fits (length r) (funcClassLetter r)
 unfolding funcClassLetter
-letter-fits r = value-fits functions (Bad (upTo 1 r)) r (omega arith)
+letter-fits r = value-fits funcClasses (Bad (upTo 1 r)) r (omega arith)
 
 letter-least : (r : List ℕ) → Least 1 (funcClassLetter r)
 unfolding funcClassLetter
-letter-least r = value-least 1 functions (Bad (upTo 1 r)) r refl tt
+letter-least r = value-least 1 funcClasses (Bad (upTo 1 r)) r refl tt
 
 adjusted-fits : (bits most : ℕ) (x : Leaf) → Fits most x → Fits (most + 1) (adjusted bits x)
 adjusted-fits bits most (Value v n) h = omega arith
@@ -258,23 +239,23 @@ func-class-least r = classed-least (drop 1 r) (funcClassLetter r) (letter-least 
 -- the class of a return may be missing
 pub return-class-fits : (r : List ℕ) → Fits (length r) (readStorageClassForReturn r)
 unfolding readStorageClassForReturn
-return-class-fits r = value-fits returned (pick (starts (bytes "?") r) (Bad (upTo 2 r)) (Value 0 0)) r (pick-fits (length r) (starts (bytes "?") r) (Bad (upTo 2 r)) (Value 0 0) (omega arith) (omega arith))
+return-class-fits r = value-fits returnClasses (pick (starts (bytes "?") r) (Bad (upTo 2 r)) (Value 0 0)) r (pick-fits (length r) (starts (bytes "?") r) (Bad (upTo 2 r)) (Value 0 0) (omega arith) (omega arith))
 
 pub string-width-fits : (r : List ℕ) → Fits (length r) (readStringWidth r)
 unfolding readStringWidth
-string-width-fits r = value-fits widths (Bad (upTo 1 r)) r (omega arith)
+string-width-fits r = value-fits stringWidths (Bad (upTo 1 r)) r (omega arith)
 
 pub string-width-least : (r : List ℕ) → Least 1 (readStringWidth r)
 unfolding readStringWidth
-string-width-least r = value-least 1 widths (Bad (upTo 1 r)) r refl tt
+string-width-least r = value-least 1 stringWidths (Bad (upTo 1 r)) r refl tt
 
 pub guard-marker-fits : (r : List ℕ) → Fits (length r) (readGuardMarker r)
 unfolding readGuardMarker
-guard-marker-fits r = value-fits markers (Bad 0) r (omega arith)
+guard-marker-fits r = value-fits guardMarkers (Bad 0) r (omega arith)
 
 pub guard-marker-least : (r : List ℕ) → Least 1 (readGuardMarker r)
 unfolding readGuardMarker
-guard-marker-least r = value-least 1 markers (Bad 0) r refl tt
+guard-marker-least r = value-least 1 guardMarkers (Bad 0) r refl tt
 
 pub operator-fits : (r : List ℕ) → Fits (length r) (readOperator r)
 unfolding readOperator
@@ -294,7 +275,7 @@ operator-least r =
 -- letters that may be missing
 pub storage-class-fits : (r : List ℕ) → readStorageClass r .taken ≤ length r
 unfolding readStorageClass
-storage-class-fits r = class-fits storages r
+storage-class-fits r = class-fits storageClasses r
 
 pub qualifier-fits : (r : List ℕ) → readQualifier r .taken ≤ length r
 qualifier-fits r = sized-qualifier .fits r

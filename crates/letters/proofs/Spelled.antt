@@ -10,7 +10,7 @@ use lib.ListN.{length, drop, length-drop}
 use lib.Seq.{drop-drop}
 use lib.Dec.{eqb}
 use Rattle.scan.specs.Bytes.{pick, bytes, starts, spelled, upTo}
-use Rattle.letters.specs.Classes.{class, _then_, optional, refQualifier, readQualifier}
+use Rattle.letters.specs.Classes.{class, _then_, optional, refQualifiers, refQualifier, qualifiers, readQualifier}
 use Rattle.letters.specs.declared.Class.{Class}
 
 -- a run of n `get`s takes n bytes where they are there
@@ -80,11 +80,11 @@ pub sized-class : (table : List (String × ℕ)) → Sized (spelled class table 
 sized-class table = record { fits = class-fits table; bound = class-bits table }
 
 pub sized-reference : Sized refQualifier 384
-sized-reference = sized-class (("G", 128) ∷ ("H", 256) ∷ [])
+sized-reference = sized-class refQualifiers
 
 pub sized-qualifier : Sized readQualifier 12
 unfolding readQualifier
-sized-qualifier = sized-class (("A", 0) ∷ ("B", 1) ∷ ("C", 2) ∷ ("D", 3) ∷ ("Q", 0) ∷ ("R", 1) ∷ ("S", 2) ∷ ("T", 3) ∷ [])
+sized-qualifier = sized-class qualifiers
 
 module _ {f : List ℕ → Class} {most : ℕ} (sized : Sized f most) (s : List ℕ) (at : ℕ) (x : Class) (says : x ≡ f (drop at s)) where
   pub stays : at ≤ length s → at + x .taken ≤ length s

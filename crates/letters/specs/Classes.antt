@@ -2,6 +2,7 @@
 -- Assumes nothing: these are definitions.
 use Prim.Native.Nat.{ℕ, _+_}
 use Prim.Native.Char.{code}
+use Prim.Native.String.{String}
 use mathlib.Core.List.{List, [], _∷_}
 use lib.ListN.{drop}
 use lib.Dec.{leb}
@@ -29,17 +30,16 @@ abbrev pub Fastcall : ℕ
 Fastcall = 4
 
 -- read_calling_conv
+abbrev pub conventions : List (String × ℕ)
+conventions = ("A", Cdecl) ∷ ("B", Cdecl) ∷ ("C", Pascal) ∷ ("E", Thiscall) ∷ ("G", Stdcall) ∷ ("I", Fastcall) ∷ []
+
 unfoldable pub readCallingConv : List ℕ → Leaf
-readCallingConv r =
-    spelled Value
-    (("A", Cdecl) ∷ ("B", Cdecl) ∷ ("C", Pascal) ∷ ("E", Thiscall) ∷ ("G", Stdcall) ∷ ("I", Fastcall) ∷ [])
-    (Bad (upTo 1 r)) r
+readCallingConv r = spelled Value conventions (Bad (upTo 1 r)) r
 
 -- the letter of read_func_class; D and F lack FAR, as in the crate
-unfoldable pub funcClassLetter : List ℕ → Leaf
-funcClassLetter r =
-    spelled Value
-    (("A", func.PRIVATE) ∷ ("B", func.PRIVATE + func.FAR)
+abbrev pub funcClasses : List (String × ℕ)
+funcClasses =
+    ("A", func.PRIVATE) ∷ ("B", func.PRIVATE + func.FAR)
     ∷ ("C", func.PRIVATE + func.STATIC) ∷ ("D", func.PRIVATE + func.STATIC)
     ∷ ("E", func.PRIVATE + func.VIRTUAL) ∷ ("F", func.PRIVATE + func.VIRTUAL)
     ∷ ("G", func.PRIVATE + func.VIRTUAL + func.THUNK) ∷ ("H", func.PRIVATE + func.VIRTUAL + func.FAR + func.THUNK)
@@ -51,8 +51,10 @@ funcClassLetter r =
     ∷ ("S", func.PUBLIC + func.STATIC) ∷ ("T", func.PUBLIC + func.STATIC + func.FAR)
     ∷ ("U", func.PUBLIC + func.VIRTUAL) ∷ ("V", func.PUBLIC + func.VIRTUAL + func.FAR)
     ∷ ("W", func.PUBLIC + func.VIRTUAL + func.THUNK) ∷ ("X", func.PUBLIC + func.VIRTUAL + func.FAR + func.THUNK)
-    ∷ ("Y", func.GLOBAL) ∷ ("Z", func.GLOBAL + func.FAR) ∷ [])
-    (Bad (upTo 1 r)) r
+    ∷ ("Y", func.GLOBAL) ∷ ("Z", func.GLOBAL + func.FAR) ∷ []
+
+unfoldable pub funcClassLetter : List ℕ → Leaf
+funcClassLetter r = spelled Value funcClasses (Bad (upTo 1 r)) r
 
 -- read_func_class: a thunk reads an adjustment behind its letter, and no other class does
 abbrev pub adjusted : ℕ → Leaf → Leaf
@@ -71,27 +73,30 @@ abbrev pub class : ℕ → ℕ → Class
 class bits n = record { bits = bits; taken = n }
 
 -- read_storage_class, read_qualifier: another letter is left and says nothing
-unfoldable pub readStorageClass : List ℕ → Class
-readStorageClass r =
-    spelled class
-    (("A", 0) ∷ ("B", CONST) ∷ ("C", VOLATILE) ∷ ("D", CONST + VOLATILE)
+abbrev pub storageClasses : List (String × ℕ)
+storageClasses =
+    ("A", 0) ∷ ("B", CONST) ∷ ("C", VOLATILE) ∷ ("D", CONST + VOLATILE)
     ∷ ("E", FAR) ∷ ("F", CONST + FAR) ∷ ("G", VOLATILE + FAR) ∷ ("H", CONST + VOLATILE + FAR)
-    ∷ ("Q", 0) ∷ ("R", CONST) ∷ ("S", VOLATILE) ∷ ("T", CONST + VOLATILE) ∷ [])
-    (class 0 0) r
+    ∷ ("Q", 0) ∷ ("R", CONST) ∷ ("S", VOLATILE) ∷ ("T", CONST + VOLATILE) ∷ []
+
+unfoldable pub readStorageClass : List ℕ → Class
+readStorageClass r = spelled class storageClasses (class 0 0) r
+
+abbrev pub qualifiers : List (String × ℕ)
+qualifiers =
+    ("A", 0) ∷ ("B", CONST) ∷ ("C", VOLATILE) ∷ ("D", CONST + VOLATILE)
+    ∷ ("Q", 0) ∷ ("R", CONST) ∷ ("S", VOLATILE) ∷ ("T", CONST + VOLATILE) ∷ []
 
 unfoldable pub readQualifier : List ℕ → Class
-readQualifier r =
-    spelled class
-    (("A", 0) ∷ ("B", CONST) ∷ ("C", VOLATILE) ∷ ("D", CONST + VOLATILE)
-    ∷ ("Q", 0) ∷ ("R", CONST) ∷ ("S", VOLATILE) ∷ ("T", CONST + VOLATILE) ∷ [])
-    (class 0 0) r
+readQualifier r = spelled class qualifiers (class 0 0) r
 
 -- read_storage_class_for_return
+abbrev pub returnClasses : List (String × ℕ)
+returnClasses =
+    ("?A", 0) ∷ ("?B", CONST) ∷ ("?C", VOLATILE) ∷ ("?D", CONST + VOLATILE) ∷ []
+
 unfoldable pub readStorageClassForReturn : List ℕ → Leaf
-readStorageClassForReturn r =
-    spelled Value
-    (("?A", 0) ∷ ("?B", CONST) ∷ ("?C", VOLATILE) ∷ ("?D", CONST + VOLATILE) ∷ [])
-    (pick (starts (bytes "?") r) (Bad (upTo 2 r)) (Value 0 0)) r
+readStorageClassForReturn r = spelled Value returnClasses (pick (starts (bytes "?") r) (Bad (upTo 2 r)) (Value 0 0)) r
 
 -- read_func_qualifiers: each of these may be missing, and the next is looked for behind it
 infixr 20 _then_
@@ -101,8 +106,11 @@ abbrev pub _then_ : (List ℕ → Class) → (List ℕ → Class) → List ℕ �
 abbrev pub optional : ℕ → ℕ → List ℕ → Class
 optional letter bits r = pick (starts (letter ∷ []) r) (class bits 1) (class 0 0)
 
+abbrev pub refQualifiers : List (String × ℕ)
+refQualifiers = ("G", LVALUE_QUAL) ∷ ("H", RVALUE_QUAL) ∷ []
+
 abbrev pub refQualifier : List ℕ → Class
-refQualifier r = spelled class (("G", LVALUE_QUAL) ∷ ("H", RVALUE_QUAL) ∷ []) (class 0 0) r
+refQualifier r = spelled class refQualifiers (class 0 0) r
 
 unfoldable pub readFuncQualifiers : List ℕ → Class
 readFuncQualifiers =
@@ -113,9 +121,15 @@ readFuncQualifiers =
     readQualifier
 
 -- parse, behind `_`: the bytes of a string's character
+abbrev pub stringWidths : List (String × ℕ)
+stringWidths = ("0", 1) ∷ ("1", 2) ∷ []
+
 unfoldable pub readStringWidth : List ℕ → Leaf
-readStringWidth r = spelled Value (("0", 1) ∷ ("1", 2) ∷ []) (Bad (upTo 1 r)) r
+readStringWidth r = spelled Value stringWidths (Bad (upTo 1 r)) r
 
 -- parse, behind the name of a guard: whether it is visible
+abbrev pub guardMarkers : List (String × ℕ)
+guardMarkers = ("4IA", 0) ∷ ("5", 1) ∷ []
+
 unfoldable pub readGuardMarker : List ℕ → Leaf
-readGuardMarker r = spelled Value (("4IA", 0) ∷ ("5", 1) ∷ []) (Bad 0) r
+readGuardMarker r = spelled Value guardMarkers (Bad 0) r
