@@ -2,7 +2,8 @@
 # Builds the crate and the oracle, with the crate's checks on and without them, by rustc alone.
 #   build.sh CRATE_SOURCE OUT [VENDOR]
 # CRATE_SOURCE has src/lib.rs. Into OUT/checked and OUT/unchecked go the libraries and `oracle`.
-# Over the stand-ins of compare/standin/, or over the real bitflags and itoa in the folder VENDOR.
+# Over the stand-ins of compare/standin/, or over the real bitflags and itoa in the folder VENDOR:
+# then with the checks on only, since that build is what the stand-ins are compared by.
 set -euo pipefail
 [ $# -ge 2 ] || { echo "usage: build.sh CRATE_SOURCE OUT [VENDOR]" >&2; exit 2; }
 here=$(dirname "$0")
@@ -32,5 +33,5 @@ build() { # profile, rustc's flags
     --extern msvc_demangler="$dir/libmsvc_demangler.rlib" -o "$dir/oracle" "$here/src/oracle.rs"
 }
 build checked -C opt-level=2 -C debug-assertions=on -C overflow-checks=on &
-build unchecked -C opt-level=3
+[ $# -ge 3 ] || build unchecked -C opt-level=3
 wait $! # fails where the build in the background did
