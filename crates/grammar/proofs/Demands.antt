@@ -67,7 +67,7 @@ module _ {Tag : Type 0} {Ans : Tag → Type 0} (body : (tag : Tag) → Program T
   reads-grow : (d : ℕ) (tag : Tag) (st : State) (l : Log) → Grows l (readAsking body same s d tag st l)
   unfolding readAsking
   reads-grow zero tag st l = record { more = _; is = refl }
-  reads-grow (suc d) tag st l = grows-on _ _ _ refl (run-grows s (λ l. same (l .nodes)) (readAsking body same s d) (reads-grow d) (body tag) (opened (200 - d) st) (asking (200 - d) st l))
+  reads-grow (suc d) tag st l = grows-on _ _ _ refl (run-grows s (λ used l. same used (l .nodes)) (readAsking body same s d) (reads-grow d) (body tag) (opened (200 - d) st) (asking (200 - d) st l))
 
 -- a test that stands before others
 holds-then : {A : Type 0} (b c : Bool) (x y z : A) → pick b c false ≡ true → (c ≡ true → x ≡ z) → pick b x y ≡ z
@@ -151,7 +151,7 @@ module _ (deepest nodes : ℕ) where
       (grow : (tag : Tag) (st : State) (l : Log) → Grows l (rec′ tag st l))
       (reads : (tag : Tag) (st : State) (l : Log) → fits (l .asked) ≡ true → rec tag st (l .nodes) ≡ settle deepest nodes (rec′ tag st l)) where
     abbrev logged : Same Log
-    logged l = same (l .nodes)
+    logged used l = same used (l .nodes)
 
     run-settles : {A : Type 0} (p : Program Tag Ans A) (st : State) (l : Log) → fits (l .asked) ≡ true → run s same (shutNodes deepest nodes) rec p st (l .nodes) ≡ settle deepest nodes (run s logged shutAsking rec′ p st l)
     unfolding run
@@ -183,8 +183,8 @@ module _ {Tag : Type 0} {Ans : Tag → Type 0} (body : (tag : Tag) → Program T
   reads-settle zero zero e tag st l h = sym (one-over limit nodes (l .asked) _ _ h (leb-not 201 limit (omega arith)))
   reads-settle zero (suc d′) e tag st l h =
       let l₁ : Log = asking (200 - d′) st l in
-      let z = run s (λ l. same (l .nodes)) shutAsking (readAsking body same s d′) (body tag) (opened (200 - d′) st) l₁ in
-      let g = run-grows s (λ l. same (l .nodes)) (readAsking body same s d′) (reads-grow body same s d′) (body tag) (opened (200 - d′) st) l₁ in
+      let z = run s (λ used l. same used (l .nodes)) shutAsking (readAsking body same s d′) (body tag) (opened (200 - d′) st) l₁ in
+      let g = run-grows s (λ used l. same used (l .nodes)) (readAsking body same s d′) (reads-grow body same s d′) (body tag) (opened (200 - d′) st) l₁ in
       let over : leb (200 - d′) limit ≡ false = leb-not (200 - d′) limit (omega arith) in
       sym (one-over limit nodes (l .asked) _ (bare z) h over) ∙ settled-over limit nodes (l₁ .asked) (g .more) (bare z) (bare z) (one-fits limit nodes (l .asked) _ false h over)
       ∙ ap (λ (ds : List Demand). settled limit nodes ds (bare z)) (sym (g .is))
@@ -253,7 +253,7 @@ module _ {Tag : Type 0} {Ans : Tag → Type 0} (body : (tag : Tag) → Program T
   reads-counted : (d : ℕ) (tag : Tag) (st : State) (l : Log) → Counted st l → Counted (readAsking body same s d tag st l .state) (readAsking body same s d tag st l .cells)
   unfolding readAsking
   reads-counted zero tag st l c = counted-asking 201 c refl refl
-  reads-counted (suc d) tag st l c = run-counted s (λ l. same (l .nodes)) (readAsking body same s d) (reads-counted d) (body tag) (opened (200 - d) st) (asking (200 - d) st l) (counted-asking (200 - d) c refl refl)
+  reads-counted (suc d) tag st l c = run-counted s (λ used l. same used (l .nodes)) (readAsking body same s d) (reads-counted d) (body tag) (opened (200 - d) st) (asking (200 - d) st l) (counted-asking (200 - d) c refl refl)
 
 -- demands fit where the largest of each limit does; where only those of one limit do not, it refuses by its name
 abbrev other : Limit → Limit

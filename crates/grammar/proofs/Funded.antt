@@ -137,7 +137,7 @@ module _ {Tag : Type 0} {Ans : Tag → Type 0} (body : (tag : Tag) → Program T
   unfolding readAsking
   reads-pay zero tag e st l i b = record { inside = i; paid = omega arith }
   reads-pay (suc d) tag e st l i b =
-      run-pays s promise (λ l. same (l .nodes)) shutAsking (readAsking body same s d) asking-closes (reads-pay d) (body tag) e (promise tag .need) (promise tag .gives) (opened (200 - d) st) (asking (200 - d) st l) i b (funded tag .by (st .at) i)
+      run-pays s promise (λ used l. same used (l .nodes)) shutAsking (readAsking body same s d) asking-closes (reads-pay d) (body tag) e (promise tag .need) (promise tag .gives) (opened (200 - d) st) (asking (200 - d) st l) i b (funded tag .by (st .at) i)
 
   pub pays : (tag : Tag) (st : State) → st .at ≡ 0 → st .used ≡ 0 → promise tag .need ≡ 0 → Pays s (promise tag .gives) (asks body same s tag st)
   pays tag st a u n =

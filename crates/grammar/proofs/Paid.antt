@@ -247,9 +247,10 @@ module _ (s : List ℕ) where
   pointee-earns : Earns 1 2 pointee
   unfolding pointee
   pointee-earns =
-      then 1 (on "E" (ends (omega arith)) (ends (omega arith)))
+      then 1 (then 1 (on "E" (ends (omega arith)) (ends (omega arith)))
       (λ ptr64. then 1 (classes readStorageClass storage-class-fits (omega arith))
-      (λ sc. varTypes (sc + ptr64) (omega arith)))
+      (λ sc. ends (omega arith))))
+      (λ sc. varTypes sc (omega arith))
 
   element-earns : Earns 1 2 element
   unfolding element

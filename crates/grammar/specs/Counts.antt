@@ -93,7 +93,7 @@ asking count st l = record { nodes = l .nodes; asked = l .asked ++ (record { lim
 module _ {Tag : Type 0} {Ans : Tag → Type 0} (body : (tag : Tag) → Program Tag Ans (Ans tag)) (same : Same (List Node)) (s : List ℕ) where
   unfoldable pub readAsking : ℕ → Part Tag Ans Log
   readAsking zero tag st l = out (refused Deep) (opened 201 st) (asking 201 st l)
-  readAsking (suc d) tag st l = run s (λ l. same (l .nodes)) shutAsking (readAsking d) (body tag) (opened (200 - d) st) (asking (200 - d) st l)
+  readAsking (suc d) tag st l = run s (λ used l. same used (l .nodes)) shutAsking (readAsking d) (body tag) (opened (200 - d) st) (asking (200 - d) st l)
 
   -- a whole reading, from an empty list of nodes
   abbrev pub asks : (tag : Tag) → State → Out (Ans tag) Log

@@ -279,16 +279,24 @@ nameBody function = do
   ret (s, guard)
 
 -- read_pointee
-unfoldable pub pointee : Reading ℕ
-pointee = do
+abbrev pub pointeeClass : Reading ℕ
+pointeeClass = do
   ptr64 ← "E" ⇒ ret PTR64 ∥ ret 0
   sc ← class readStorageClass
-  varType (sc + ptr64)
+  ret (sc + ptr64)
+
+unfoldable pub pointee : Reading ℕ
+pointee = do
+  sc ← pointeeClass
+  varType sc
 
 -- read_nested_array(dimension): past the last dimension the element, else one more dimension, which is a part
+abbrev pub elementClass : Reading ℕ
+elementClass = "$$C" ⇒ ("B" ⇒ ret CONST ∥ "C" ⇒ ret (CONST + VOLATILE) ∥ "D" ⇒ ret (CONST + VOLATILE) ∥ "A" ⇒ ret 0 ∥ fail) ∥ ret 0
+
 unfoldable pub element : Reading (ℕ × ℕ)
 element = do
-  sc ← "$$C" ⇒ ("B" ⇒ ret CONST ∥ "C" ⇒ ret (CONST + VOLATILE) ∥ "D" ⇒ ret (CONST + VOLATILE) ∥ "A" ⇒ ret 0 ∥ fail) ∥ ret 0
+  sc ← elementClass
   t ← varType 0
   ret (t, sc)
 

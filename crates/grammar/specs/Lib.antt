@@ -3,4 +3,5 @@ pub mod Words
 pub mod Kind
 pub mod Grammar
 pub mod Counts
+pub mod Table
 pub mod Worked

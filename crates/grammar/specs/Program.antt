@@ -66,8 +66,9 @@ Part Tag Ans T = (tag : Tag) → State → T → Out (Ans tag) T
 abbrev pub Shut : Type 0 → Type 0
 Shut T = ℕ → List ℕ → List ℕ → State → T → Out ℕ T
 
+-- of the nodes counted so far
 abbrev pub Same : Type 0 → Type 0
-Same T = T → ℕ → ℕ → Bool
+Same T = ℕ → T → ℕ → ℕ → Bool
 
 abbrev pub at+ : ℕ → State → State
 at+ n st = record { at = st .at + n; used = st .used; deep = st .deep; memo = st .memo }
@@ -100,7 +101,7 @@ run s same shut rec (when b p q) st t = pick b (run s same shut rec p st t) (run
 run s same shut rec (skip n p) st t = run s same shut rec p (at+ n st) t
 run s same shut rec (recall k) st t = run s same shut rec (k (st .memo)) st t
 run s same shut rec (keep m p) st t = run s same shut rec p (with m st) t
-run s same shut rec (store w n p) st t = run s same shut rec p (with (added (same t) w n (st .memo)) st) t
+run s same shut rec (store w n p) st t = run s same shut rec p (with (added (same (st .used) t) w n (st .memo)) st) t
 run s same shut rec (part tag k) st t = andThen (rec tag st t) (λ a st′ t′. run s same shut rec (k a) st′ t′)
 run s same shut rec (sub p k) st t = andThen (run s same shut rec p st t) (λ a st′ t′. run s same shut rec (k a) st′ t′)
 run s same shut rec (node kd numbers refs k) st t = andThen (shut kd numbers refs st t) (λ n st′ t′. run s same shut rec (k n) st′ t′)

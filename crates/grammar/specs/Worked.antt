@@ -13,7 +13,7 @@ use Rattle.strings.specs.Encoded.{readEncodedString, characters, character, esc
 use Rattle.letters.specs.Classes.{readCallingConv, funcClassLetter, readFuncClass, readStorageClass, readQualifier, readStorageClassForReturn, readFuncQualifiers, readStringWidth, readGuardMarker}
 use Rattle.operators.specs.Operators.{readOperator}
 use Rattle.forms.specs.Types.{typeReference}
-use Rattle.grammar.specs.Program.{Out, Reply, found, refused, run}
+use Rattle.grammar.specs.Program.{Out, Reply, found, refused, Same, run}
 use Rattle.grammar.specs.Grammar.{Tag, Parse, Ans, body, emptyMemo, scopeFrom, scope, listEnd, storedParam, newParam, paramsFrom, params, funcParams, templateName, plainName, rttiTypeDescriptor, rttiBaseClassDescriptor, specialName, unqualifiedBody, nestedOf, nestedBody, nameBody, pointee, element, dimensions, array, funcReturnType, funcType, memberClasses, memberFunctionPointer, letterType, plainType, formType, varTypeBody, encodedString, memberFunction, symbolTypeOf, symbolTypeBody, indexAndOne, guardIndex, parseOf}
 use Rattle.grammar.specs.Counts.{Node, asks, readAsking, shutAsking, settle}
 use Rattle.grammar.specs.declared.State.{State}
@@ -23,8 +23,8 @@ abbrev start : State
 start = record { at = 0; used = 0; deep = 0; memo = emptyMemo }
 
 -- nodes of equal number, in place of equal meaning
-abbrev same : List Node → ℕ → ℕ → Bool
-same ns a b = eqb a b
+abbrev same : Same (List Node)
+same used ns a b = eqb a b
 
 abbrev verdict : Out ℕ (List Node) → Reply ℕ × ℕ × ℕ
 verdict o = (o .reply, o .state .at, o .state .used)
