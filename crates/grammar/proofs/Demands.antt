@@ -13,8 +13,8 @@ use native.Mathlib.Omega.{arith}
 use borrow.Author.Tests.{leb-true, leb-false, le-leb}
 use lib.Dec.{leb}
 use Rattle.scan.specs.Bytes.{pick}
-use Rattle.grammar.specs.Program.{Program, ret, fail, look, when, skip, recall, keep, store, part, sub, node, Reply, found, refused, Out, out, onward, andThen, Part, Shut, Same, run, added, at+, with}
-use Rattle.grammar.specs.Counts.{Node, Limit, depth, room, Demand, Log, made, closed, opened, shutNodes, readNodes, shutAsking, asking, readAsking, asks, budget, name, settled, bare, settle, same-limit, most}
+use Rattle.grammar.specs.Program.{Program, ret, fail, look, when, skip, recall, keep, store, part, sub, node, Reply, found, refused, Out, out, onward, andThen, Part, Same, run}
+use Rattle.grammar.specs.Counts.{Node, Limit, depth, room, Demand, Log, opened, shutNodes, readNodes, shutAsking, asking, readAsking, asks, budget, name, settled, bare, settle, same-limit, most}
 use Rattle.grammar.specs.declared.State.{State}
 use Rattle.grammar.specs.declared.Refusal.{Refusal}
 use Rattle.grammar.specs.declared.Refusal.the-variants.{Syntax, Deep, Full}

@@ -5,3 +5,4 @@ pub mod Demands
 pub mod Leaves
 pub mod Funded
 pub mod Paid
+pub mod Table

@@ -31,7 +31,7 @@ use Rattle.forms.specs.declared.begins.SymbolForm.{SymbolForm}
 use Rattle.forms.specs.declared.begins.SymbolForm.the-variants as symbol
 use Rattle.forms.specs.declared.begins.NameForm.{NameForm}
 use Rattle.forms.specs.declared.begins.NameForm.the-variants as name
-use Rattle.grammar.specs.Program.{Program, ret, fail, look, when, skip, part, sub, node}
+use Rattle.grammar.specs.Program.{Program, ret, fail, look, when, skip, part, node}
 use Rattle.grammar.specs.Words.{_>>=_, _>>_, _⇒_∥_, _↝_∥_, ordered, atEnd, expect, refuseIf, here, leaf, span, class, digit, memo, setMemo, memorizeName, memorizeType, nameOf, typeOf, negative, negated, number, unsigned, string, hexDigits}
 use Rattle.grammar.specs.Kind.{Kind, NamePlace, TypePlace, ParseResult, Symbol, OuterSymbol, Md5, Operator, RttiTypeDescriptor, RttiBaseClassDescriptor, NonTemplate, AsInterface, Template, Discriminator, ParsedName, AnonymousId, Anonymous, None, MemberFunction, MemberFunctionPointer, NonMemberFunction, CXXVBTable, CXXVFTable, VCallThunk, TemplateParameterWithIndex, ThreadSafeStaticGuard, Constant, ConstantString, Ptr, Ref, RValueRef, Array, Var, Alias, Struct, Union, Class, Enum, Basic, VarArgs, EmptyParameterPack, Nullptr, RTTIType, kindNumber}
 use Rattle.grammar.specs.declared.Memo.{Memo}
@@ -291,8 +291,11 @@ pointee = do
   varType sc
 
 -- read_nested_array(dimension): past the last dimension the element, else one more dimension, which is a part
+abbrev pub elementLetter : Reading ℕ
+elementLetter = "B" ⇒ ret CONST ∥ "C" ⇒ ret (CONST + VOLATILE) ∥ "D" ⇒ ret (CONST + VOLATILE) ∥ "A" ⇒ ret 0 ∥ fail
+
 abbrev pub elementClass : Reading ℕ
-elementClass = "$$C" ⇒ ("B" ⇒ ret CONST ∥ "C" ⇒ ret (CONST + VOLATILE) ∥ "D" ⇒ ret (CONST + VOLATILE) ∥ "A" ⇒ ret 0 ∥ fail) ∥ ret 0
+elementClass = "$$C" ⇒ elementLetter ∥ ret 0
 
 unfoldable pub element : Reading (ℕ × ℕ)
 element = do
@@ -342,9 +345,9 @@ memberClasses false ptr64 = do
   funcClass ← leaf readFuncClass
   ret (ptr64, funcClass)
 
-unfoldable pub memberFunctionPointer : Bool → Reading ℕ
-memberFunctionPointer readQualifiers = do
-  s ← name′ true
+-- behind its name
+abbrev pub memberPointer : Bool → ℕ → Reading ℕ
+memberPointer readQualifiers s = do
   ptr64 ← "E" ⇒ ret PTR64 ∥ ret 0
   (sc, funcClass) ← memberClasses readQualifiers ptr64
   conv ← leaf readCallingConv
@@ -352,6 +355,11 @@ memberFunctionPointer readQualifiers = do
   t ← funcReturnType returnSc
   l ← funcParams
   close MemberFunctionPointer (sc ∷ conv ∷ funcClass ∷ []) (to t ∷ l ∷ to s ∷ [])
+
+unfoldable pub memberFunctionPointer : Bool → Reading ℕ
+memberFunctionPointer readQualifiers = do
+  s ← name′ true
+  memberPointer readQualifiers s
 
 -- read_var_type(sc), its references apart: what follows the prefixes. `B`, `Q`, `R` and `S` drop the class handed in
 abbrev pub named : Kind → ℕ → Reading ℕ
@@ -445,6 +453,14 @@ memberFunction = do
   l ← funcParams
   close MemberFunction (sc ∷ conv ∷ funcClass ∷ []) (to t ∷ l ∷ [])
 
+abbrev pub plainFunction : Reading ℕ
+plainFunction = do
+  conv ← leaf readCallingConv
+  returnSc ← leaf readStorageClassForReturn
+  t ← varType returnSc
+  l ← funcParams
+  close NonMemberFunction (0 ∷ conv ∷ []) (to t ∷ l ∷ [])
+
 unfoldable pub symbolTypeOf : SymbolForm → Reading ℕ
 symbolTypeOf (symbol.Variable kind) = do
   t ← varType 0
@@ -459,12 +475,7 @@ symbolTypeOf symbol.VBTable = do
   l ← scope
   close CXXVBTable (sc ∷ []) (l ∷ [])
 symbolTypeOf symbol.ExternC = close None [] []
-symbolTypeOf symbol.Function = do
-  conv ← leaf readCallingConv
-  returnSc ← leaf readStorageClassForReturn
-  t ← varType returnSc
-  l ← funcParams
-  close NonMemberFunction (0 ∷ conv ∷ []) (to t ∷ l ∷ [])
+symbolTypeOf symbol.Function = plainFunction
 symbolTypeOf symbol.String = do
   width ← leaf readStringWidth
   encodedString width

@@ -1,15 +1,15 @@
 -- The language that the grammar is written in, and what a program of it does. `Program Tag Ans A` reads the symbol from the state's place on and answers with an A.
 -- The parts that open are those of Tag; the part `tag` answers with an `Ans tag`. Assumes nothing: these are definitions.
-use Prim.Native.Nat.{ℕ, zero, suc, _+_, _-_, _*_, max}
-use mathlib.Core.List.{List, [], _∷_, _++_}
+use Prim.Native.Nat.{ℕ, _+_}
+use mathlib.Core.List.{List, [], _∷_}
 use mathlib.Core.Bool.{Bool, true, false}
-use lib.ListN.{length, getD, set, take}
-use lib.Dec.{ltb, leb, eqb}
+use lib.ListN.{set, take}
+use lib.Dec.{ltb}
 use Rattle.scan.specs.Bytes.{pick}
 use Rattle.grammar.specs.declared.Memo.{Memo}
 use Rattle.grammar.specs.declared.State.{State}
 use Rattle.grammar.specs.declared.Refusal.{Refusal}
-use Rattle.grammar.specs.declared.Refusal.the-variants.{Syntax, Deep, Full}
+use Rattle.grammar.specs.declared.Refusal.the-variants.{Syntax}
 
 -- the two lists of a memo
 pub data Store : Type 0 where

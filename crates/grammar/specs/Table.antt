@@ -2,7 +2,6 @@
 -- Assumes nothing: these are definitions.
 use Prim.Native.Nat.{ℕ, zero, suc, _+_, _-_, _*_, max}
 use mathlib.Core.List.{List, [], _∷_, _++_}
-use mathlib.Core.Bool.{Bool}
 use lib.ListN.{getD, take}
 use lib.Dec.{leb}
 use Rattle.scan.specs.Bytes.{pick}
@@ -42,16 +41,16 @@ tallestIn t [] = 0
 tallestIn t (r ∷ rs) = max (table.heightAt t r) (tallestIn t rs)
 
 -- closing a node: its height against the limit, then the room, then its cells
-abbrev pub shutAt : ℕ → ℕ → row.Node → State → List ℕ → Out ℕ (List ℕ)
-shutAt limit depth x st t =
+abbrev pub shutAt : ℕ → ℕ → ℕ → row.Node → State → List ℕ → Out ℕ (List ℕ)
+shutAt limit room depth x st t =
     pick (leb depth limit)
-    (pick (leb (st .used + 1) (table.nodes t)) (out (found (st .used)) (closed depth st) (table.stored t (st .used) x)) (out (refused Full) st t))
+    (pick (leb (st .used + 1) room) (out (found (st .used)) (closed depth st) (table.stored t (st .used) x)) (out (refused Full) st t))
     (out (refused Deep) st t)
 
-unfoldable pub shutTable : ℕ → Shut (List ℕ)
-shutTable limit kind numbers refs st t =
+unfoldable pub shutTable : ℕ → ℕ → Shut (List ℕ)
+shutTable limit room kind numbers refs st t =
     let height = tallestIn (counted (st .used) t) refs + rises kind in
-    shutAt limit (pick (leb kind 2) 0 height) (laid kind height numbers refs) st t
+    shutAt limit room (pick (leb kind 2) 0 height) (laid kind height numbers refs) st t
 
 -- equal meaning, among the counted nodes; and the same over a list of nodes
 unfoldable pub sameTable : List ℕ → Same (List ℕ)
@@ -62,6 +61,6 @@ sameNodes s used ns a b = eqTree (treeOf (cellsOf ns) s (a + 1)) (treeOf (cellsO
 
 -- a part of a grammar, read within a remaining depth
 module _ {Tag : Type 0} {Ans : Tag → Type 0} (body : (tag : Tag) → Program Tag Ans (Ans tag)) (s : List ℕ) where
-  unfoldable pub readTable : ℕ → ℕ → Part Tag Ans (List ℕ)
-  readTable limit zero tag st t = out (refused Deep) st t
-  readTable limit (suc d) tag st t = run s (sameTable s) (shutTable limit) (readTable limit d) (body tag) (opened (limit - d) st) t
+  unfoldable pub readTable : ℕ → ℕ → ℕ → Part Tag Ans (List ℕ)
+  readTable limit room zero tag st t = out (refused Deep) st t
+  readTable limit room (suc d) tag st t = run s (sameTable s) (shutTable limit room) (readTable limit room d) (body tag) (opened (limit - d) st) t

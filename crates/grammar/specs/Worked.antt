@@ -3,7 +3,6 @@ use Prim.Native.Nat.{ℕ}
 use Prim.Native.String.{String}
 use mathlib.Core.Path.{_≡_, refl}
 use mathlib.Core.List.{List, [], _∷_, map}
-use mathlib.Core.Bool.{Bool}
 use lib.Dec.{eqb}
 use Rattle.scan.specs.Bytes.{bytes}
 use Rattle.scan.specs.Cursor.{getByte, readDigit}
@@ -14,7 +13,7 @@ use Rattle.letters.specs.Classes.{readCallingConv, funcClassLetter, readFuncCla
 use Rattle.operators.specs.Operators.{readOperator}
 use Rattle.forms.specs.Types.{typeReference}
 use Rattle.grammar.specs.Program.{Out, Reply, found, refused, Same, run}
-use Rattle.grammar.specs.Grammar.{Tag, Parse, Ans, body, emptyMemo, scopeFrom, scope, listEnd, storedParam, newParam, paramsFrom, params, funcParams, templateName, plainName, rttiTypeDescriptor, rttiBaseClassDescriptor, specialName, unqualifiedBody, nestedOf, nestedBody, nameBody, pointee, element, dimensions, array, funcReturnType, funcType, memberClasses, memberFunctionPointer, letterType, plainType, formType, varTypeBody, encodedString, memberFunction, symbolTypeOf, symbolTypeBody, indexAndOne, guardIndex, parseOf}
+use Rattle.grammar.specs.Grammar.{Parse, body, emptyMemo, scopeFrom, scope, listEnd, storedParam, newParam, paramsFrom, params, funcParams, templateName, plainName, rttiTypeDescriptor, rttiBaseClassDescriptor, specialName, unqualifiedBody, nestedOf, nestedBody, nameBody, pointee, element, dimensions, array, funcReturnType, funcType, memberClasses, memberFunctionPointer, letterType, plainType, formType, varTypeBody, encodedString, memberFunction, symbolTypeOf, symbolTypeBody, indexAndOne, guardIndex, parseOf}
 use Rattle.grammar.specs.Counts.{Node, asks, readAsking, shutAsking, settle}
 use Rattle.grammar.specs.declared.State.{State}
 use Rattle.grammar.specs.declared.Refusal.the-variants.{Syntax, Deep, Full}

@@ -1,0 +1,3 @@
+-- The parts that open no other, and what is stored behind an answer.
+pub mod Parts
+pub mod Names

@@ -1,0 +1,92 @@
+-- The memo's entries, and whether one of the first of them is equal. Assumes nothing.
+use Prim.Native.Nat.{ℕ, _+_, _≤_, _<_}
+use mathlib.Core.Path.{_≡_, refl, sym, ap, _∙_}
+use mathlib.Core.List.{List}
+use mathlib.Core.Bool.{Bool, true, false}
+use native.Mathlib.Omega.{arith}
+use native.Mathlib.Numerals.{add-one}
+use lib.ListN.{length, getD, take, drop, set, length-take, drop-of-length-le, List·getD-eq-default}
+use lib.Dec.{ltb}
+use borrow.Author.Tests.{lt-ltb, le-ltb}
+use lib.Seq.{drop-cons, getD-take}
+use Rattle.scan.specs.Bytes.{pick}
+use Rattle.meaning.specs.Tree.{treeOf, eqTree}
+use Rattle.grammar.specs.Program.{Store, names, types, ret, fail, when, recall, run, anyOf, added, with}
+use Rattle.grammar.specs.Table.{counted, sameTable}
+use Rattle.grammar.specs.Grammar.{Reading}
+use Rattle.grammar.specs.declared.Memo.{Memo}
+use Rattle.grammar.specs.declared.State.{State}
+use Rattle.grammar.specs.declared.Refusal.the-variants.{Syntax}
+use Rattle.steps.specs.Does.{refusedAt, foundAt, Finds, Keeps}
+use Rattle.steps.specs.declared.state.Got.{Got}
+
+-- of the first n entries those from i on: the entry i, and those behind it
+any-from : (f : ℕ → Bool) (l : List ℕ) (n i : ℕ) → i < n → n ≤ length l → anyOf f (drop i (take n l)) ≡ pick (f (getD l i 0)) true (anyOf f (drop (i + 1) (take n l)))
+any-from f l n i h m =
+    let k : i < length (take n l) = rw (length-take n l) (omega arith) in
+    rw (add-one i, drop-cons (take n l) i 0 k, getD-take n l i 0 h)
+
+pub any-here : (f : ℕ → Bool) (l : List ℕ) (n i : ℕ) → i < n → n ≤ length l → f (getD l i 0) ≡ true → anyOf f (drop i (take n l)) ≡ true
+any-here f l n i h m e = any-from f l n i h m ∙ rw e
+
+pub any-behind : (f : ℕ → Bool) (l : List ℕ) (n i : ℕ) → i < n → n ≤ length l → f (getD l i 0) ≡ false → anyOf f (drop i (take n l)) ≡ anyOf f (drop (i + 1) (take n l))
+any-behind f l n i h m e = any-from f l n i h m ∙ rw e
+
+pub any-none : (f : ℕ → Bool) (l : List ℕ) (n i : ℕ) → n ≤ i → anyOf f (drop i (take n l)) ≡ false
+any-none f l n i h =
+    let k : length (take n l) ≤ i = rw (length-take n l) (omega arith) in
+    rw (drop-of-length-le (take n l) k)
+
+-- the entries of a store, and how many there are
+abbrev pub entries : Store → Memo → List ℕ
+entries names m = m .names
+entries types m = m .types
+
+abbrev pub count : Store → Memo → ℕ
+count names m = m .«names_len»
+count types m = m .«types_len»
+
+-- the entry i: `nameOf i` and `typeOf i`
+abbrev entryOf : Store → ℕ → Reading ℕ
+entryOf w i = recall λ m. when (ltb i (count w m)) (ret (getD (entries w m) i 0)) fail
+
+module _ (w : Store) {i : ℕ} {st : State} {g : Got} where
+  pub entry-at : i < count w (st .memo) → g ≡ foundAt (getD (entries w (st .memo)) i 0) 0 st → Finds (entryOf w i) st g
+  unfolding run
+  entry-at h e = record { is = λ s limit room d t. rw (e, lt-ltb i (count w (st .memo)) h); bare = rw e }
+
+  -- past what is kept stands 0
+  pub entry-past : i < count w (st .memo) → length (entries w (st .memo)) ≤ i → g ≡ foundAt 0 0 st → Finds (entryOf w i) st g
+  entry-past h l e = entry-at h (e ∙ ap (λ (n : ℕ). foundAt n 0 st) (sym (List·getD-eq-default (entries w (st .memo)) 0 l)))
+
+  pub no-entry : count w (st .memo) ≤ i → g ≡ refusedAt Syntax st → Finds (entryOf w i) st g
+  unfolding run
+  no-entry h e = record { is = λ s limit room d t. rw (e, le-ltb i (count w (st .memo)) h); bare = rw e }
+
+-- one entry more
+abbrev pub grown : Store → ℕ → Memo → Memo
+grown names n m = record { names = set (m .names) (m .«names_len») n; types = m .types; «names_len» = m .«names_len» + 1; «types_len» = m .«types_len» }
+grown types n m = record { names = m .names; types = set (m .types) (m .«types_len») n; «names_len» = m .«names_len»; «types_len» = m .«types_len» + 1 }
+
+added-is : (same : ℕ → ℕ → Bool) (w : Store) (n : ℕ) (m : Memo) → added same w n m ≡ pick (ltb (count w m) 10) (pick (anyOf (same n) (take (count w m) (entries w m))) m (grown w n m)) m
+added-is same names n m = refl
+added-is same types n m = refl
+
+-- among the counted nodes, as `holds` finds it over their part of the table
+among : (s t front l : List ℕ) (used n : ℕ) {b : Bool} → front ≡ counted used t → b ≡ anyOf (λ e. eqTree (treeOf front s (n + 1)) (treeOf front s (e + 1))) l → anyOf (sameTable s used t n) l ≡ b
+unfolding sameTable
+among s t front l used n p h = sym (h ∙ ap (λ (c : List ℕ). anyOf (λ e. eqTree (treeOf c s (n + 1)) (treeOf c s (e + 1))) l) p)
+
+module _ (w : Store) {s : List ℕ} {n : ℕ} {st st′ : State} {t : List ℕ} where
+  keeps-by : {m : Memo} → pick (ltb (count w (st .memo)) 10) (pick (anyOf (sameTable s (st .used) t n) (take (count w (st .memo)) (entries w (st .memo)))) (st .memo) (grown w n (st .memo))) (st .memo) ≡ m → st′ ≡ with m st → Keeps s w n st t st′
+  keeps-by h e = record { is = e ∙ ap (λ (m : Memo). with m st) (sym (added-is (sameTable s (st .used) t) w n (st .memo) ∙ h)) }
+
+  pub keeps-full : 10 ≤ count w (st .memo) → st′ ≡ st → Keeps s w n st t st′
+  keeps-full h e = keeps-by (rw (le-ltb (count w (st .memo)) 10 h)) e
+
+  module _ {front : List ℕ} {b : Bool} (room : count w (st .memo) < 10) (part : front ≡ counted (st .used) t) (held : b ≡ anyOf (λ e. eqTree (treeOf front s (n + 1)) (treeOf front s (e + 1))) (take (count w (st .memo)) (entries w (st .memo)))) where
+    pub keeps-held : b ≡ true → st′ ≡ st → Keeps s w n st t st′
+    keeps-held h e = keeps-by (rw (lt-ltb (count w (st .memo)) 10 room, among s t front (take (count w (st .memo)) (entries w (st .memo))) (st .used) n part held, h)) e
+
+    pub keeps-more : b ≡ false → st′ ≡ with (grown w n (st .memo)) st → Keeps s w n st t st′
+    keeps-more h e = keeps-by (rw (lt-ltb (count w (st .memo)) 10 room, among s t front (take (count w (st .memo)) (entries w (st .memo))) (st .used) n part held, h)) e

@@ -1,0 +1,62 @@
+-- `steps::memo::memorize_type` meets its contract.
+-- Assumes nothing.
+use mathlib.Core.Path.{refl}
+use Rattle.grammar.specs.Program.{types}
+use Rattle.steps.proofs.Memos.{keeps-full, keeps-held, keeps-more}
+use borrow.Author.Needs.{needs}
+use Rattle.steps.proofs.memo.memorize_type.Statement.{statement}
+use Rattle.steps.proofs.memo.memorize_type.Tie as tie
+
+returns : tie.Need-returns
+returns c = keeps-full types (c .if1 .taken) refl
+
+counted-requires : tie.Need-counted-requires
+counted-requires c κs = search needs
+
+holds-requires : tie.Need-holds-requires
+holds-requires c κs = search needs
+
+returns-2 : tie.Need-returns-2
+returns-2 c =
+    let at-holds = c .before in
+    let at-counted = at-holds .before in
+    let at-if1 = at-counted .before .before in
+    keeps-held types (at-if1 .if1 .left) (at-counted .counted .ensures) (at-holds .holds .ensures) (c .if2 .taken) refl
+
+cast-i : tie.Need-cast-i
+cast-i c = search needs
+
+mul-next : tie.Need-mul-next
+mul-next c = search needs
+
+element-write-next : tie.Need-element-write-next
+element-write-next c = search needs
+
+add-next : tie.Need-add-next
+add-next c = search needs
+
+with-memo-requires : tie.Need-with-memo-requires
+with-memo-requires c κs = search needs
+
+returns-3 : tie.Need-returns-3
+returns-3 c =
+    let at-if2 = c .before in
+    let at-holds = at-if2 .before in
+    let at-counted = at-holds .before in
+    let at-if1 = at-counted .before .before in
+    keeps-more types (at-if1 .if1 .left) (at-counted .counted .ensures) (at-holds .holds .ensures) (at-if2 .if2 .left) (c .with-memo .ensures)
+
+pub memorize-type-spec : {M : Type 1} → statement M
+memorize-type-spec =
+    tie.close
+    (tie.spec
+    returns
+    counted-requires
+    holds-requires
+    returns-2
+    cast-i
+    mul-next
+    element-write-next
+    add-next
+    with-memo-requires
+    returns-3)
