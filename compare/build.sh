@@ -1,7 +1,8 @@
 #!/bin/bash
 # Builds the crate and the oracle, with the crate's checks on and without them, by rustc alone.
 #   build.sh CRATE_SOURCE OUT [VENDOR]
-# CRATE_SOURCE has src/lib.rs. Into OUT/checked and OUT/unchecked go the libraries and `oracle`.
+# CRATE_SOURCE has src/lib.rs, to which one function is appended (src/consumed.rs), nothing else.
+# Into OUT/checked and OUT/unchecked go the libraries and `oracle`.
 # Over the stand-ins of compare/standin/, or over the real bitflags and itoa in the folder VENDOR:
 # then with the checks on only, since that build is what the stand-ins are compared by.
 set -euo pipefail
@@ -27,7 +28,8 @@ build() { # profile, rustc's flags
   }
   library bitflags "$bitflags" "$@"
   library itoa "$itoa" "$@"
-  library msvc_demangler "$crate" "$@" \
+  cat "$crate" "$here/src/consumed.rs" > "$dir/msvc_demangler.rs"
+  library msvc_demangler "$dir/msvc_demangler.rs" "$@" \
     --extern bitflags="$dir/libbitflags.rlib" --extern itoa="$dir/libitoa.rlib"
   rustc --crate-name oracle --edition 2021 -D warnings "$@" -L "$dir" \
     --extern msvc_demangler="$dir/libmsvc_demangler.rlib" -o "$dir/oracle" "$here/src/oracle.rs"

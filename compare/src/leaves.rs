@@ -6,6 +6,7 @@
 //! reading after the leaf does, which shows how many bytes the leaf took; and the bytes taken with
 //! a tail that suits them must make a symbol in whose tree the leaf's value stands.
 mod cases;
+mod enums;
 mod follow;
 mod forms;
 mod inputs;

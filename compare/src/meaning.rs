@@ -1,7 +1,11 @@
 //! Compares the product's equality of meaning with a plain recursion, on small random tables, and
 //! times it on towers that make a plain recursion exponential.
+mod decode;
+
 use std::process::ExitCode;
 use std::time::{Duration, Instant};
+
+use decode::decoded;
 
 #[link(name = "meaning_export", kind = "static")]
 extern "C" {
@@ -30,29 +34,6 @@ const BYTES: [u32; 4] = [6, NON_TEMPLATE, 11, 15];
 fn same(table: &[u32], symbol: &[u8], r: usize, q: usize) -> bool {
     // SAFETY: both slices live through the call, which only reads them, within their lengths.
     unsafe { farthingmoss_same(table.as_ptr(), table.len(), symbol.as_ptr(), symbol.len(), r, q) }
-}
-
-/// The byte of the encoded character that begins here, and the bytes it takes.
-fn character(bytes: &[u8]) -> Option<(u8, usize)> {
-    match *bytes {
-        [c @ (b'0'..=b'9' | b'a'..=b'z' | b'A'..=b'Z' | b'_' | b'$'), ..] => Some((c, 1)),
-        [b'?', c @ b'A'..=b'Z', ..] => Some((c - b'A' + 225, 2)),
-        [b'?', c @ b'a'..=b'z', ..] => Some((c - b'a' + 225, 2)),
-        [b'?', c @ b'0'..=b'9', ..] => Some((b",/\\:. \n\t'-"[usize::from(c - b'0')], 2)),
-        [b'?', b'$', high @ b'A'..=b'P', low @ b'A'..=b'P', ..] => {
-            Some(((high - b'A') * 16 + (low - b'A'), 4))
-        }
-        _ => None,
-    }
-}
-
-fn decoded(mut bytes: &[u8]) -> Vec<u8> {
-    let mut text = Vec::new();
-    while let Some((byte, taken)) = character(bytes) {
-        text.push(byte);
-        bytes = &bytes[taken..];
-    }
-    text
 }
 
 /// What a node is without its references: kind, numbers, bytes.

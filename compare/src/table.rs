@@ -2,6 +2,7 @@
 use unchecked::{Name, Operator, Type};
 
 use crate::cases;
+use crate::enums;
 use crate::follow;
 use crate::forms::{self, is_one_of};
 use crate::inputs::Inputs;
@@ -368,7 +369,7 @@ pub const LEAVES: [Leaf; 27] = [
         value: |seen| match seen.symbol_type()? {
             Type::Var(class, ..) => match &**class {
                 Type::Class(symbol, _) => match &symbol.name {
-                    Name::Operator(operator) => tree::operator(operator),
+                    Name::Operator(operator) => enums::operator(operator),
                     _ => None,
                 },
                 _ => None,

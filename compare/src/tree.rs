@@ -1,6 +1,7 @@
 //! The values of leaves as the crate's tree shows them.
 use unchecked::{Name, Operator, StorageClass, Type};
 
+use crate::enums;
 use crate::product::Answer;
 use crate::reference::{self, ParseResult, Reading};
 
@@ -103,24 +104,6 @@ pub fn bits(number: i32) -> u64 {
     u64::from(number as u32)
 }
 
-/// The name of an enum's variant.
-fn variant(value: &impl std::fmt::Debug) -> String {
-    format!("{value:?}").chars().take_while(|letter| letter.is_ascii_alphanumeric()).collect()
-}
-
-fn place(names: &str, value: &impl std::fmt::Debug) -> Option<u64> {
-    let name = variant(value);
-    names.split_whitespace().position(|other| other == name).map(|place| place as u64)
-}
-
-pub fn operator(operator: &Operator) -> Option<u64> {
-    place(OPERATORS, operator)
-}
-
-pub fn primitive_type(primitive: &Type) -> Option<u64> {
-    place(PRIMITIVE_TYPES, primitive)
-}
-
 /// Which of the type prefixes the type after them, of the tail that suits it, shows.
 pub fn type_prefix(seen: &Seen) -> Option<u64> {
     Some(match seen.described_type()? {
@@ -163,7 +146,7 @@ pub fn type_letter(seen: &Seen) -> Option<u64> {
         Type::Ptr(_, class) if class.bits() == CONST_VOLATILE => 10,
         Type::Ptr(..) => 7,
         Type::Array(..) => 11,
-        primitive => 32 + primitive_type(primitive)?,
+        primitive => 32 + enums::primitive_type(primitive)?,
     })
 }
 
@@ -208,22 +191,3 @@ pub fn symbol_type(seen: &Seen) -> Option<u64> {
         _ => return None,
     })
 }
-
-/// The crate's operators in the order of its enum, but for the two with operands, which come last.
-const OPERATORS: &str = "
-    Ctor Dtor New Delete Equal RShift LShift Bang EqualEqual BangEqual Subscript Conversion Arrow
-    Star PlusPlus MinusMinus Minus Plus Amp ArrowStar Slash Percent Less LessEqual Greater
-    GreaterEqual Comma Call Tilde Caret Pipe AmpAmp PipePipe StarEqual PlusEqual MinusEqual
-    SlashEqual PercentEqual GreaterGreaterEqual LessLessEqual AmpEqual PipeEqual CaretEqual VFTable
-    VBTable VCall Typeof LocalStaticGuard String VBaseDtor VectorDeletingDtor DefaultCtorClosure
-    ScalarDeletingDtor VectorCtorIterator VectorDtorIterator VectorVBaseCtorIterator
-    VirtualDisplacementMap EHVectorCtorIterator EHVectorDtorIterator EHVectorVBaseCtorIterator
-    CopyCtorClosure LocalVFTable LocalVFTableCtorClosure ArrayNew ArrayDelete PlacementDeleteClosure
-    PlacementArrayDeleteClosure CoroutineAwait LiteralOperatorName RTTIBaseClassArray
-    RTTIClassHierarchyDescriptor RTTIClassCompleteObjectLocator DynamicInitializer DynamicAtexitDtor
-    LocalStaticThreadGuard RTTITypeDescriptor RTTIBaseClassDescriptor";
-
-/// The crate's built-in types in the order of its enum.
-const PRIMITIVE_TYPES: &str = "
-    Void Bool Char Schar Uchar Short Ushort Int Uint Long Ulong Int64 Uint64 Int128 Uint128 Wchar
-    Char8 Char16 Char32 Float Double Ldouble";

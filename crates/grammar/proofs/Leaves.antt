@@ -283,13 +283,13 @@ qualifier-fits r = sized-qualifier .fits r
 then-fits : (f g : List ℕ → Class) → ((r : List ℕ) → f r .taken ≤ length r) → ((r : List ℕ) → g r .taken ≤ length r) → (r : List ℕ) → (f then g) r .taken ≤ length r
 then-fits f g p q r = omega (arith, p r, q (drop (f r .taken) r), length-drop (f r .taken) r)
 
-abbrev referenced : List ℕ → Class
+abbrev pub referenced : List ℕ → Class
 referenced = refQualifier then readQualifier
 
-abbrev unaligned : List ℕ → Class
+abbrev pub unaligned : List ℕ → Class
 unaligned = optional (code "F") UNALIGNED then referenced
 
-abbrev restricted : List ℕ → Class
+abbrev pub restricted : List ℕ → Class
 restricted = optional (code "I") RESTRICT then unaligned
 
 pub func-qualifiers-fits : (r : List ℕ) → readFuncQualifiers r .taken ≤ length r

@@ -1,4 +1,4 @@
--- The rules and the theorems on all programs of the language, and what this grammar pays.
+-- The rules and the theorems on all programs of the language; what this grammar pays, and that what it leaves is well formed.
 pub mod Laws
 pub mod Ordered
 pub mod Demands
@@ -6,3 +6,8 @@ pub mod Leaves
 pub mod Funded
 pub mod Paid
 pub mod Table
+pub mod Bounds
+pub mod Rows
+pub mod Calm
+pub mod Sound
+pub mod Formed

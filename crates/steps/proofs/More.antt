@@ -12,7 +12,7 @@ use Rattle.grammar.specs.Program.{ret, fail, look, when, part, sub, found, refu
 use Rattle.grammar.specs.Words.{here, memo, setMemo, refuseIf}
 use Rattle.grammar.specs.Table.{readTable}
 use Rattle.grammar.specs.Kind.{NamePlace}
-use Rattle.grammar.specs.Grammar.{Tag, Dimension, Ans, Reading, nestedArray}
+use Rattle.grammar.specs.Grammar.{Tag, Dimension, Ans, Reading, nestedArray, element}
 use Rattle.grammar.specs.declared.Memo.{Memo}
 use Rattle.grammar.specs.declared.State.{State}
 use Rattle.grammar.specs.declared.Refusal.{Refusal}
@@ -94,10 +94,21 @@ module _ {s : List ℕ} {limit room d : ℕ} where
   unfolding run
   does-pass e r = record { is = rw e (r .is) }
 
--- an inner dimension is a part
-pub nested-some : (n : ℕ) → 0 < n → nestedArray n ≡ part (Dimension n) ret
+-- an inner dimension is a part, and inside the last one is the element
+nested-some : (n : ℕ) → 0 < n → nestedArray n ≡ part (Dimension n) ret
 nested-some zero h = absurd (omega arith)
 nested-some (suc n) h = refl
+
+pub nested-more : (n : ℕ) → 1 < n → nestedArray (n - 1) ≡ part (Dimension (n - 1)) ret
+nested-more n h = nested-some (n - 1) (omega arith)
+
+pub nested-last : (n : ℕ) → n ≤ 1 → nestedArray (n - 1) ≡ element
+nested-last n h = let e : n - 1 ≡ 0 = omega arith in ap nestedArray e
+
+pub nested-deep :
+    {A : Type 0} {w : View A} {s : List ℕ} {limit room d : ℕ} (n : ℕ) {k : ℕ × ℕ → Reading A} {st : State} {t : List ℕ} {g : Got} →
+    1 < n → d ≡ 0 → g ≡ refusedAt Deep st → Does s limit room d (sub (nestedArray (n - 1)) k) st t w g t
+nested-deep n {k} h e f = does-as (ap (λ (p : Reading (ℕ × ℕ)). sub p k) (nested-more n h)) (part-deep {tag = Dimension (n - 1)} {k = k} e f)
 
 pub does-guard :
     {s : List ℕ} {limit room d : ℕ} {p : Reading ℕ} {b b′ : Bool} {st : State} {t t′ : List ℕ} {g : Got} →

@@ -1,0 +1,2 @@
+-- What a whole reading answers and leaves.
+pub mod Answers

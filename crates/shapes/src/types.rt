@@ -1,0 +1,158 @@
+// The shape of a type.
+ghost use mathlib.Core.Path.{_≡_};
+ghost use Prim.Native.Nat.{_≤_};
+ghost use lib.ListN.{length};
+ghost use Rattle.grammar.specs.Grammar.{varTypeBody, formType, letterType, plainType};
+ghost use Rattle.forms.specs.declared.types.TypeForm.the-variants.{Reclassed, MemberPointer};
+ghost use Rattle.forms.specs.declared.types.TypeLetter.the-variants.{Parameter};
+ghost use Rattle.steps.specs.Does.{Leads};
+ghost use Rattle.shapes.specs.Shapes.{basicOf, shapeType, numberedType};
+use forms::types::TypeForm;
+use forms::types::TypeLetter;
+use grammar::State;
+use steps::leaves::expect;
+use steps::leaves::number;
+use steps::leaves::qualifier;
+use steps::state::Value;
+use steps::state::past;
+
+pub enum Shape {
+    // a node of a kind above a name; whether it is read as a function's; its class
+    Named(u32, bool, u32),
+    // above a pointee, above a function
+    Pointing(u32, u32),
+    ToFunction(u32, u32),
+    // with qualifiers or not
+    Member(bool),
+    Function(bool),
+    Array,
+    // a node of a kind with a number and nothing below it
+    Leaf(u32, u32),
+    Refused,
+}
+
+pub struct Shaped {
+    pub shape: Shape,
+    pub state: State,
+}
+
+fn shape_at(shape: Shape, st: State) -> Shaped
+    ensures { λ r. ⌜ r ≡ record { shape = shape; state = st } ⌝ }
+{
+    Shaped { shape, state: st }
+}
+
+// A node of a kind with the number that stands here.
+fn numbered(s: &[u8], st: State, kind: u32) -> Shaped
+    requires { ⌜ length (now s) ≤ 4096 ⌝ }
+    ensures { λ r. ⌜ Leads (now (s .entry)) (numberedType kind) st (shapeType (r .shape)) (r .state) ⌝ }
+{
+    let k = number(s, st);
+    let v = k.value;
+    match v {
+        Value::Is(n) => shape_at(Shape::Leaf(kind, n), k.state),
+        Value::Bad => shape_at(Shape::Refused, k.state),
+    }
+}
+
+// The number of a template's parameter, which stands here negated.
+fn parameter(s: &[u8], st: State) -> Shaped
+    requires { ⌜ length (now s) ≤ 4096 ⌝ }
+    ensures { λ r. ⌜ Leads (now (s .entry)) (letterType 0 Parameter) st (shapeType (r .shape)) (r .state) ⌝ }
+{
+    let k = number(s, st);
+    let v = k.value;
+    match v {
+        Value::Is(n) => shape_at(
+            Shape::Leaf(24, ((0x1_0000_0000 - (n as u64)) % 0x1_0000_0000) as u32),
+            k.state,
+        ),
+        Value::Bad => shape_at(Shape::Refused, k.state),
+    }
+}
+
+fn letter_shape(s: &[u8], st: State, l: TypeLetter, sc: u32) -> Shaped
+    requires { ⌜ length (now s) ≤ 4096 ⌝ }
+    requires { ⌜ basicOf l ≤ 21 ⌝ }
+    ensures { λ r. ⌜ Leads (now (s .entry)) (letterType sc l) st (shapeType (r .shape)) (r .state) ⌝ }
+{
+    match l {
+        TypeLetter::Parameter => parameter(s, st),
+        TypeLetter::Union => shape_at(Shape::Named(35, false, sc), st),
+        TypeLetter::Struct => shape_at(Shape::Named(34, false, sc), st),
+        TypeLetter::Class => shape_at(Shape::Named(36, false, sc), st),
+        TypeLetter::Ref => shape_at(Shape::Pointing(29, sc), st),
+        TypeLetter::VolatileRef => shape_at(Shape::Pointing(29, 2), st),
+        TypeLetter::Ptr => shape_at(Shape::Pointing(28, sc), st),
+        TypeLetter::ConstPtr => shape_at(Shape::Pointing(28, 1), st),
+        TypeLetter::VolatilePtr => shape_at(Shape::Pointing(28, 2), st),
+        TypeLetter::ConstVolatilePtr => shape_at(Shape::Pointing(28, 3), st),
+        TypeLetter::Array => shape_at(Shape::Array, st),
+        TypeLetter::Basic(k) => shape_at(Shape::Leaf(38 + k, sc), st),
+        TypeLetter::Refused => shape_at(Shape::Refused, st),
+    }
+}
+
+// What follows the prefixes.
+fn plain_shape(s: &[u8], st: State, sc: u32) -> Shaped
+    requires { ⌜ length (now s) ≤ 4096 ⌝ }
+    ensures { λ r. ⌜ Leads (now (s .entry)) (plainType sc) st (shapeType (r .shape)) (r .state) ⌝ }
+{
+    let h = forms::types::type_letter(s, st.at as usize);
+    let l = h.letter;
+    letter_shape(s, past(st, h.taken), l, sc)
+}
+
+fn reclassed(s: &[u8], st: State) -> Shaped
+    requires { ⌜ length (now s) ≤ 4096 ⌝ }
+    ensures { λ r. ⌜ Leads (now (s .entry)) (formType 0 Reclassed) st (shapeType (r .shape)) (r .state) ⌝ }
+{
+    let q = qualifier(s, st);
+    plain_shape(s, q.state, q.bits)
+}
+
+fn member_pointer(s: &[u8], st: State) -> Shaped
+    requires { ⌜ length (now s) ≤ 4096 ⌝ }
+    ensures { λ r. ⌜ Leads (now (s .entry)) (formType 0 MemberPointer) st (shapeType (r .shape)) (r .state) ⌝ }
+{
+    let e = expect(b"?", s, st);
+    let v = e.value;
+    match v {
+        Value::Is(_) => shape_at(Shape::Member(false), e.state),
+        Value::Bad => shape_at(Shape::Refused, e.state),
+    }
+}
+
+fn form_shape(s: &[u8], st: State, f: TypeForm, sc: u32) -> Shaped
+    requires { ⌜ length (now s) ≤ 4096 ⌝ }
+    ensures { λ r. ⌜ Leads (now (s .entry)) (formType sc f) st (shapeType (r .shape)) (r .state) ⌝ }
+{
+    match f {
+        TypeForm::Enum => shape_at(Shape::Named(37, false, sc), st),
+        TypeForm::FunctionRef => shape_at(Shape::ToFunction(29, sc), st),
+        TypeForm::FunctionPtr => shape_at(Shape::ToFunction(28, sc), st),
+        TypeForm::MemberFunctionPtr => shape_at(Shape::Member(true), st),
+        TypeForm::Constant => numbered(s, st, 26),
+        TypeForm::TemplateParameter => numbered(s, st, 24),
+        TypeForm::Array => shape_at(Shape::Array, st),
+        TypeForm::RValueRef => shape_at(Shape::Pointing(30, sc), st),
+        TypeForm::EmptyPack => shape_at(Shape::Leaf(61, 0), st),
+        TypeForm::Nullptr => shape_at(Shape::Leaf(62, 0), st),
+        TypeForm::Function => shape_at(Shape::Function(false), st),
+        TypeForm::QualifiedFunction => shape_at(Shape::Function(true), st),
+        TypeForm::Alias => shape_at(Shape::Named(33, true, sc), st),
+        TypeForm::Reclassed => reclassed(s, st),
+        TypeForm::MemberPointer => member_pointer(s, st),
+        TypeForm::Plain => plain_shape(s, st, sc),
+    }
+}
+
+// read_var_type, up to its first part.
+pub fn type_shape(s: &[u8], st: State, sc: u32) -> Shaped
+    requires { ⌜ length (now s) ≤ 4096 ⌝ }
+    ensures { λ r. ⌜ Leads (now (s .entry)) (varTypeBody sc) st (shapeType (r .shape)) (r .state) ⌝ }
+{
+    let b = forms::types::type_start(s, st.at as usize);
+    let f = b.form;
+    form_shape(s, past(st, b.taken), f, sc)
+}
