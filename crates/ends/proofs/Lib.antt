@@ -1,3 +1,4 @@
 -- The parts that open no other, and what is stored behind an answer.
 pub mod Parts
 pub mod Names
+pub mod Lists

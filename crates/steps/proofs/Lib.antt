@@ -2,7 +2,6 @@
 pub mod Laws
 pub mod Leads
 pub mod More
-pub mod Lists
 -- What the steps' own proofs use.
 pub mod Says
 pub mod Choices

@@ -8,7 +8,7 @@ use Rattle.grammar.specs.Grammar.{params, paramsFrom}
 use Rattle.steps.specs.Does.{plain, Does}
 use Rattle.steps.specs.declared.state.Got.{Got}
 use Rattle.steps.proofs.Laws.{does-sub, sub-refused}
-use Rattle.steps.proofs.Lists.{params-starts, params-ends, params-goes, params-out}
+use Rattle.ends.proofs.Lists.{params-starts, params-ends, params-goes, params-out}
 use borrow.Author.Needs.{needs}
 use native.Mathlib.Omega.{arith}
 use Rattle.reader.proofs.+array+dims+elem+fparams+func+mptr+name+named+nested+nname+oguard+oname+otmpl+param+params+parse+pform+pguard+pname+point+ptmpl+rett+scope+sname+special+strt+sym+tail+tmpl+tofn+ty+unq+unqn+var+vtype.Proof.Common.{params-at, param-below}

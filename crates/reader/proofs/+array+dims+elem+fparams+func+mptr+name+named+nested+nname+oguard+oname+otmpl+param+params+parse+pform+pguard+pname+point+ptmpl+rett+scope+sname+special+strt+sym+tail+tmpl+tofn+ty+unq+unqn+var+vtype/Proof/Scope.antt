@@ -8,7 +8,7 @@ use Rattle.grammar.specs.Grammar.{scope, scopeFrom}
 use Rattle.steps.specs.Does.{plain, Does}
 use Rattle.steps.specs.declared.state.Got.{Got}
 use Rattle.steps.proofs.Laws.{does-sub, sub-refused}
-use Rattle.steps.proofs.Lists.{scope-starts, scope-ends, scope-goes, scope-out}
+use Rattle.ends.proofs.Lists.{scope-starts, scope-ends, scope-goes, scope-out}
 use borrow.Author.Needs.{needs}
 use native.Mathlib.Omega.{arith}
 use Rattle.reader.proofs.+array+dims+elem+fparams+func+mptr+name+named+nested+nname+oguard+oname+otmpl+param+params+parse+pform+pguard+pname+point+ptmpl+rett+scope+sname+special+strt+sym+tail+tmpl+tofn+ty+unq+unqn+var+vtype.Proof.Common.{scope-at, sname-below}

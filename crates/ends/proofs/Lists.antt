@@ -15,19 +15,14 @@ use Rattle.grammar.specs.Kind.{NamePlace}
 use Rattle.grammar.specs.Grammar.{Reading, place, nestedName, scopeFrom, scope, listEnd, storedParam, newParam, paramsFrom, params}
 use Rattle.grammar.specs.declared.State.{State}
 use Rattle.grammar.specs.declared.Refusal.the-variants.{Syntax}
 use Rattle.steps.specs.Does.{refusedAt, foundAt, plain, Does, Meets}
 use Rattle.steps.proofs.Laws.{does-ret, does-fail, does-look, does-when, does-else, on-met, on-unmet}
 use Rattle.steps.proofs.More.{does-as, does-assoc}
 use Rattle.steps.specs.declared.state.Got.{Got}
 use Rattle.steps.specs.declared.state.Value.the-variants.{Is, Bad}
 use Rattle.steps.specs.declared.state.Took.{Took}
 use Rattle.grammar.proofs.Funded.{true-false}
-
--- a name of a scope, and its place
-abbrev pub scopeEntry : ℕ → Reading ℕ
-scopeEntry last = do
-  n ← nestedName
-  place NamePlace n last
+use Rattle.ends.specs.Ends.{listStops, scopeName}
 
 scope-some : (f last : ℕ) → 0 < f → scopeFrom f last ≡ ("@" ⇒ ret last ∥ sub nestedName (λ n. sub (place NamePlace n last) (λ next. scopeFrom (f - 1) next)))
 unfolding scopeFrom
@@ -40,10 +35,6 @@ params-some :
 unfolding paramsFrom
 params-some zero last h = absurd (omega arith)
 params-some (suc f) last h = rw sub-one
-
--- a list of types stops here
-abbrev pub stops : List ℕ → ℕ → Bool
-stops s at = pick (starts (bytes "@") (drop at s)) true (pick (starts (bytes "Z") (drop at s)) true (leb (length s) at))
 
 one-of : (a b c : Bool) → pick a true (pick b true c) ≡ true → (a ≡ true) ⊎ (((a ≡ false) × (b ≡ true)) ⊎ ((a ≡ false) × (b ≡ false) × (c ≡ true)))
 one-of true b c e = inl refl
@@ -66,7 +57,7 @@ module _ {s : List ℕ} {limit room d : ℕ} where
 
   pub scope-goes :
       (f last : ℕ) {st : State} {r : Took} {t t′ : List ℕ} {g : Got} → 0 < f → Meets (bytes "@") s st r → r .value ≡ Bad →
-      Does s limit room d (sub (scopeEntry last) (λ next. scopeFrom (f - 1) next)) st t plain g t′ → Does s limit room d (scopeFrom f last) st t plain g t′
+      Does s limit room d (sub (scopeName last) (λ next. scopeFrom (f - 1) next)) st t plain g t′ → Does s limit room d (scopeFrom f last) st t plain g t′
   scope-goes f last h m e q = does-as (scope-some f last h) (on-unmet "@" m e (does-assoc q))
 
   pub scope-out : (f last : ℕ) {st : State} {t : List ℕ} {g : Got} → f ≤ 0 → g ≡ refusedAt Syntax st → Does s limit room d (scopeFrom f last) st t plain g t
@@ -79,7 +70,7 @@ module _ {s : List ℕ} {limit room d : ℕ} where
 
   -- where it stops, and where it goes on
   pub params-ends :
-      (f last : ℕ) {b : Bool} {st : State} {t t′ : List ℕ} {g : Got} → 0 < f → b ≡ stops s (st .at) → b ≡ true →
+      (f last : ℕ) {b : Bool} {st : State} {t t′ : List ℕ} {g : Got} → 0 < f → b ≡ listStops s (st .at) → b ≡ true →
       Does s limit room d (listEnd last) st t plain g t′ → Does s limit room d (paramsFrom f last) st t plain g t′
   params-ends f last {st = st} h e q r =
       does-as (params-some f last h)
@@ -88,7 +79,7 @@ module _ {s : List ℕ} {limit room d : ℕ} where
       (one-of (starts (bytes "@") (drop (st .at) s)) (starts (bytes "Z") (drop (st .at) s)) (leb (length s) (st .at)) (sym e ∙ q)))
 
   pub params-goes :
-      (f last : ℕ) {b : Bool} {st : State} {t t′ : List ℕ} {g : Got} → 0 < f → b ≡ stops s (st .at) → b ≡ false →
+      (f last : ℕ) {b : Bool} {st : State} {t t′ : List ℕ} {g : Got} → 0 < f → b ≡ listStops s (st .at) → b ≡ false →
       Does s limit room d (sub (digit (storedParam last) (newParam last)) (λ next. paramsFrom (f - 1) next)) st t plain g t′ → Does s limit room d (paramsFrom f last) st t plain g t′
   params-goes f last {st = st} h e q r =
       let n = none-of (starts (bytes "@") (drop (st .at) s)) (starts (bytes "Z") (drop (st .at) s)) (leb (length s) (st .at)) (sym e ∙ q) in
