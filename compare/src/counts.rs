@@ -1,8 +1,9 @@
 //! The product's counts by brute force: a symbol read within every small budget of depth and nodes,
 //! each held to the plain model; nothing changes behind the nodes counted by then, and a refusal
 //! leaves these as zeros.
+use crate::limits::{ACCEPTED, CELLS};
 use crate::model::Demands;
-use crate::reading::{self, ACCEPTED, CELLS};
+use crate::reading;
 
 /// Larger symbols would take too long.
 const MOST_NODES: usize = 60;

@@ -1,6 +1,6 @@
 //! Damage to a symbol: what a log or a caller may do to it.
+use crate::limits::LONGEST;
 use crate::random::Random;
-use crate::reading::LONGEST;
 
 /// Letters that begin or end something somewhere.
 const LETTERS: &[u8] = b"?????@@@@@$$$0123456789ABCDEFGHIJKLMNOPQRSTUVWXYZ_ax";

@@ -2,8 +2,8 @@
 //! of `crates/grammar/specs/Grammar.antt`, by any of its alternatives.
 mod types;
 
+use crate::limits::LONGEST;
 use crate::random::Random;
-use crate::reading::LONGEST;
 
 const DIGITS: &[u8] = b"0123456789";
 const HEX: &[u8] = b"0123456789abcdefABCDEF";

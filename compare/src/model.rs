@@ -8,7 +8,9 @@ mod types;
 use std::collections::hash_map::DefaultHasher;
 use std::hash::{Hash, Hasher};
 
-use crate::reading::{ACCEPTED, DEEP, FULL, SYNTAX};
+use crate::limits::{ACCEPTED, DEEP, FULL, SYNTAX};
+
+const MOST_COPIED: u64 = 1_000_000;
 
 /// What is asked for, at which offset: a depth, or a number of nodes.
 #[derive(Clone, Copy)]
@@ -36,7 +38,7 @@ pub struct Demands {
     demands: Vec<Demand>,
     end: (u64, usize),
     /// How many nodes the crate copies, which has a tree where the product has a reference.
-    pub copied: u64,
+    copied: u64,
 }
 
 impl Demands {
@@ -47,6 +49,12 @@ impl Demands {
             Err(Refused) => SYNTAX,
         };
         Demands { end: (number, model.at), demands: model.demands, copied: model.copied }
+    }
+
+    /// Whether the crate would have neither time nor memory for its copies: a short symbol can have
+    /// a very large tree.
+    pub fn too_heavy(&self) -> bool {
+        self.copied > MOST_COPIED
     }
 
     /// The largest depth and the largest number of nodes asked for.

@@ -12,75 +12,58 @@ mod decode;
 mod enums;
 mod exhaustive;
 mod generate;
+mod limits;
 mod model;
 mod random;
 mod reading;
 mod shape;
+mod sources;
+mod tally;
+mod traps;
 mod verdict;
 
-use std::collections::BTreeMap;
-use std::fmt::Display;
 use std::path::Path;
 use std::process::ExitCode;
-use std::{env, fs, io, thread};
+use std::{env, io};
 
-use generate::Generator;
-use random::Random;
+use tally::{Differences, Reasons};
 use verdict::Verdict;
 
-const SHOWN_DIFFERENCES: usize = 5;
-const SEED: u64 = 1;
 /// The counts are tried for one symbol in so many, and for shorter ones only.
 const COUNTED: usize = 30;
 const LONGEST_COUNTED: usize = 300;
-/// The crate and the model recur as deep as a symbol is long.
-const STACK_BYTES: usize = 512 << 20;
 
 /// What became of the symbols of a source.
 #[derive(Default)]
 struct Tally {
     accepted: usize,
     refused: usize,
-    traps: BTreeMap<String, usize>,
-    left_out: BTreeMap<&'static str, usize>,
-    different: Vec<(Vec<u8>, String)>,
+    traps: Reasons,
+    left_out: Reasons,
+    different: Differences,
 }
 
 impl Tally {
     fn add(&mut self, symbol: Vec<u8>, verdict: Verdict, trap: Option<String>) {
         if let Some(trap) = trap {
-            *self.traps.entry(trap).or_default() += 1;
+            self.traps.add(trap);
         }
         match verdict {
             Verdict::Accepted => self.accepted += 1,
             Verdict::Refused => self.refused += 1,
-            Verdict::LeftOut(reason) => *self.left_out.entry(reason).or_default() += 1,
-            Verdict::Different(difference) => self.different.push((symbol, difference)),
+            Verdict::LeftOut(reason) => self.left_out.add(reason),
+            Verdict::Different(difference) => self.different.add(symbol, difference),
         }
     }
 
-    /// Whether there is a difference. The shortest symbols are shown.
+    /// Whether there is a difference.
     fn print(&mut self, source: &str) -> bool {
-        let Tally { accepted, refused, different, .. } = self;
+        let Tally { accepted, refused, .. } = self;
         let equal = *accepted + *refused;
         println!("reader, {source}: {equal} symbols as in the crate, {accepted} of them accepted");
-        list(&format!("reader, {source}: the crate's checks trap"), &self.traps);
-        list(&format!("reader, {source}: left out"), &self.left_out);
-        different.sort_by_key(|(symbol, _)| symbol.len());
-        for (symbol, difference) in different.iter().take(SHOWN_DIFFERENCES) {
-            println!("reader, {source}: `{}`: {difference}", symbol.escape_ascii());
-        }
-        if !different.is_empty() {
-            println!("reader, {source}: {} DIFFERENT", different.len());
-        }
-        !different.is_empty()
-    }
-}
-
-fn list(title: &str, counts: &BTreeMap<impl Display, usize>) {
-    let counts: Vec<_> = counts.iter().map(|(what, count)| format!("{count} {what}")).collect();
-    if !counts.is_empty() {
-        println!("{title}: {}", counts.join(", "));
+        self.traps.print(&format!("reader, {source}: the crate's checks trap"));
+        self.left_out.print(&format!("reader, {source}: left out"));
+        self.different.print(&format!("reader, {source}"))
     }
 }
 
@@ -88,15 +71,15 @@ fn list(title: &str, counts: &BTreeMap<impl Display, usize>) {
 fn outside(symbol: &[u8]) -> Option<&'static str> {
     match symbol.len() {
         0 => Some("empty"),
-        1..=reading::LONGEST if symbol.is_ascii() => None,
-        1..=reading::LONGEST => Some("a byte of 128 or more"),
+        1..=limits::LONGEST if symbol.is_ascii() => None,
+        1..=limits::LONGEST => Some("a byte of 128 or more"),
         _ => Some("over 4,096 bytes"),
     }
 }
 
 /// Whether the product differs on a symbol.
 fn differs(source: &str, symbols: impl Iterator<Item = Vec<u8>>) -> bool {
-    let mut table = vec![0; reading::MOST_NODES * reading::CELLS];
+    let mut table = vec![0; limits::MOST_NODES * limits::CELLS];
     let mut tally = Tally::default();
     for symbol in symbols {
         let (verdict, trap) = match (outside(&symbol), std::str::from_utf8(&symbol)) {
@@ -108,19 +91,11 @@ fn differs(source: &str, symbols: impl Iterator<Item = Vec<u8>>) -> bool {
     tally.print(source)
 }
 
-/// Every other symbol is damaged.
-fn generated(count: usize) -> impl Iterator<Item = Vec<u8>> {
-    let (mut generator, mut random) = (Generator::new(SEED), Random::new(SEED));
-    (0..count).map(move |place| match place % 2 {
-        0 => generator.symbol(),
-        _ => damage::damaged(&mut random, generator.symbol(), &generator.symbol()),
-    })
-}
-
 /// Whether a symbol is not read as it should within some budgets. Large symbols are passed over.
 fn counts_differ(count: usize) -> bool {
     let mut tried = 0;
-    for symbol in generated(count).filter(|symbol| (1..LONGEST_COUNTED).contains(&symbol.len())) {
+    let counted = |symbol: &Vec<u8>| (1..LONGEST_COUNTED).contains(&symbol.len());
+    for symbol in sources::generated(count).filter(counted) {
         match counts::wrong_budgets(&symbol) {
             None => continue,
             Some(None) => tried += 1,
@@ -135,28 +110,13 @@ fn counts_differ(count: usize) -> bool {
     false
 }
 
-/// The symbols of all lists in the folder.
-fn listed(lists: &Path) -> io::Result<Vec<Vec<u8>>> {
-    let mut symbols = Vec::new();
-    for entry in fs::read_dir(lists)? {
-        let path = entry?.path();
-        if path.extension().is_some_and(|extension| extension == "txt") {
-            symbols.extend(fs::read(path)?.split(|byte| *byte == b'\n').map(<[u8]>::to_vec));
-        }
-    }
-    symbols.sort();
-    symbols.dedup();
-    Ok(symbols)
-}
-
 fn compare(count: usize, lists: Option<String>) -> io::Result<bool> {
-    verdict::keep_traps();
     let mut failed = false;
     if let Some(lists) = lists {
-        failed |= differs("lists", listed(Path::new(&lists))?.into_iter());
+        failed |= differs("lists", sources::listed(Path::new(&lists))?.into_iter());
     }
     failed |= differs("short strings", exhaustive::symbols(count));
-    failed |= differs("from the grammar", generated(count));
+    failed |= differs("from the grammar", sources::generated(count));
     failed |= counts_differ(count / COUNTED);
     Ok(failed)
 }
@@ -168,13 +128,5 @@ fn main() -> io::Result<ExitCode> {
         return Ok(ExitCode::from(2));
     };
     let lists = words.next();
-    let comparison = thread::Builder::new().stack_size(STACK_BYTES);
-    let failed = match comparison.spawn(move || compare(count, lists))?.join() {
-        Ok(failed) => failed?,
-        Err(_) => {
-            eprintln!("reader: {}", verdict::last_trap());
-            true
-        }
-    };
-    Ok(ExitCode::from(u8::from(failed)))
+    traps::run("reader", move || compare(count, lists))
 }

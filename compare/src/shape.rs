@@ -5,7 +5,7 @@ use unchecked::{Name, NameSequence, Operator, Params, ParseResult, StorageClass,
 
 use crate::decode::decoded;
 use crate::enums;
-use crate::reading::CELLS;
+use crate::limits::CELLS;
 
 type Height = Option<usize>;
 

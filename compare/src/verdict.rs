@@ -1,12 +1,11 @@
 //! One symbol, read by the product, by the crate and by the plain model: how they compare.
-use std::panic;
-use std::sync::Mutex;
-
 use unchecked::ParseResult;
 
+use crate::limits::{ACCEPTED, CELLS, DEEP, DEEPEST, MOST_NODES, SYNTAX};
 use crate::model::Demands;
-use crate::reading::{self, Reading, CELLS};
+use crate::reading::{self, Reading};
 use crate::shape::Shape;
+use crate::traps;
 
 /// How the readings of a symbol compare.
 pub enum Verdict {
@@ -19,35 +18,16 @@ pub enum Verdict {
 
 const DEEPER: &str = "deeper than 200";
 const ESCAPE: &str = "refused by the rule for `?$`";
-/// The crate copies what a back-reference stands for, so a short symbol can have a tree for which
-/// there is neither time nor memory.
-const MOST_COPIED: u64 = 1_000_000;
 
 /// Bytes consumed, or the offset of the refusal.
 type Answer = Result<usize, usize>;
 
-static LAST_TRAP: Mutex<String> = Mutex::new(String::new());
-
-/// Keeps the message of a panic of the crate, in place of printing it.
-pub fn keep_traps() {
-    panic::set_hook(Box::new(|information| {
-        let message = information.payload().downcast_ref::<&str>().map(ToString::to_string);
-        *LAST_TRAP.lock().expect("no thread panics with the lock") =
-            message.unwrap_or_else(|| information.to_string());
-    }));
-}
-
-pub fn last_trap() -> String {
-    LAST_TRAP.lock().expect("no thread panics with the lock").clone()
-}
-
 /// The crate's answer with its checks, or the name of the trap.
 fn checked(symbol: &str) -> Result<Answer, String> {
-    let read = || match checked::parse_consumed(symbol) {
+    traps::caught(|| match checked::parse_consumed(symbol) {
         (Ok(_), consumed) => Ok(consumed),
         (Err(error), _) => Err(error.offset().expect("parse errors have an offset")),
-    };
-    panic::catch_unwind(read).map_err(|_| last_trap())
+    })
 }
 
 /// The crate's answer without its checks, where arithmetic wraps, and its tree.
@@ -84,11 +64,11 @@ fn right_table(symbol: &str, ours: Reading, table: &[u32], tree: &ParseResult) -
 
 /// How the answer, or the counts of an accepted symbol, differ from those of the plain model.
 fn difference_from_model(ours: Reading, demands: &Demands) -> Option<String> {
-    let (number, offset, _) = demands.within(reading::DEEPEST.into(), reading::MOST_NODES);
+    let (number, offset, _) = demands.within(DEEPEST.into(), MOST_NODES);
     let (depth, nodes) = demands.counts();
     let model = Reading { number, offset, depth, nodes };
     let same = match number {
-        reading::ACCEPTED => ours == model,
+        ACCEPTED => ours == model,
         _ => ours.answer() == model.answer(),
     };
     (!same).then(|| format!("{ours:?}, the model {model:?}"))
@@ -97,12 +77,12 @@ fn difference_from_model(ours: Reading, demands: &Demands) -> Option<String> {
 /// The verdict, and the trap of the crate's checks, if there is one: then the crate without them
 /// decides.
 pub fn compare(symbol: &str, table: &mut [u32]) -> (Verdict, Option<String>) {
-    let ours = reading::read(symbol.as_bytes(), reading::DEEPEST, table);
+    let ours = reading::read(symbol.as_bytes(), DEEPEST, table);
     let demands = Demands::of(symbol.as_bytes());
     if let Some(difference) = difference_from_model(ours, &demands) {
         return (Verdict::Different(difference), None);
     }
-    if demands.copied > MOST_COPIED {
+    if demands.too_heavy() {
         return (Verdict::LeftOut("too heavy for the crate"), None);
     }
     let (theirs, tree) = unchecked(symbol);
@@ -115,15 +95,15 @@ pub fn compare(symbol: &str, table: &mut [u32]) -> (Verdict, Option<String>) {
         Err(trap) => Some(trap),
     };
     let verdict = match (ours.number, theirs, tree) {
-        (reading::ACCEPTED, Ok(consumed), Some(tree)) if consumed == ours.offset => {
+        (ACCEPTED, Ok(consumed), Some(tree)) if consumed == ours.offset => {
             match right_table(symbol, ours, table, &tree) {
                 true => Verdict::Accepted,
                 false => Verdict::Different(format!("{ours:?}, but not the tree {tree:?}")),
             }
         }
-        (reading::SYNTAX, Err(offset), _) if offset == ours.offset => Verdict::Refused,
-        (reading::DEEP, Ok(end) | Err(end), _) if ours.offset <= end => Verdict::LeftOut(DEEPER),
-        (reading::SYNTAX, ..) if refuses_escape(symbol, ours.offset) => Verdict::LeftOut(ESCAPE),
+        (SYNTAX, Err(offset), _) if offset == ours.offset => Verdict::Refused,
+        (DEEP, Ok(end) | Err(end), _) if ours.offset <= end => Verdict::LeftOut(DEEPER),
+        (SYNTAX, ..) if refuses_escape(symbol, ours.offset) => Verdict::LeftOut(ESCAPE),
         _ => Verdict::Different(format!("{:?}, the crate {theirs:?}", ours.answer())),
     };
     (verdict, trap)

@@ -11,7 +11,7 @@ use lib.ListN.{length, drop}
 use Rattle.scan.specs.Bytes.{pick, bytes, starts}
 use Rattle.grammar.specs.Program.{ret, fail, look, when, sub}
 use Rattle.grammar.specs.Words.{_>>=_, _⇒_∥_, _↝_∥_, digit, atEnd}
-use Rattle.grammar.specs.Kind.{NamePlace}
+use Rattle.node.specs.Kind.{NamePlace}
 use Rattle.grammar.specs.Grammar.{Reading, place, nestedName, scopeFrom, scope, listEnd, storedParam, newParam, paramsFrom, params}
 use Rattle.grammar.specs.declared.State.{State}
 use Rattle.grammar.specs.declared.Refusal.the-variants.{Syntax}

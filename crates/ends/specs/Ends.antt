@@ -9,7 +9,7 @@ use Rattle.scan.specs.Bytes.{pick, bytes, starts}
 use Rattle.grammar.specs.Program.{ret, fail, look, when, skip, sub, node, found, refused, Out, out}
 use Rattle.grammar.specs.Counts.{opened}
 use Rattle.grammar.specs.Words.{_>>=_, _>>_, expect, here, setMemo, memorizeName, memorizeType}
-use Rattle.grammar.specs.Kind.{NamePlace, TypePlace, Template, Array}
+use Rattle.node.specs.Kind.{NamePlace, TypePlace, Template, Array}
 use Rattle.grammar.specs.Grammar.{Reading, close, place, to, nestedName}
 use Rattle.grammar.specs.declared.Memo.{Memo}
 use Rattle.grammar.specs.declared.State.{State}

@@ -42,7 +42,7 @@ use Rattle.node.specs.Cells.{nodes, cellOf, heightAt}
 use Rattle.form.specs.Form.{wellFormed}
 use Rattle.grammar.specs.Program.{ret, part, Reply, found, Out, out, Same}
 use Rattle.grammar.specs.Words.{_⇒_∥_, expect, leaf, class, nameOf}
-use Rattle.grammar.specs.Kind.{Kind, NamePlace, TypePlace, Ptr, Ref, RValueRef, Struct, Union, Class, Enum, Basic, kindNumber}
+use Rattle.node.specs.Kind.{Kind, NamePlace, TypePlace, Ptr, Ref, RValueRef, Struct, Union, Class, Enum, Basic, kindNumber}
 use Rattle.grammar.specs.Grammar.{Tag, Parse, OuterMd5, OuterTemplate, OuterGuard, MdFive, OuterName, SymbolType, NoType, GuardType, Name, Unqualified, Nested, VarType, Func, Dimension, Variadic, NoParams, NoReturn, Ans, Reading, close, emptyMemo, place, name′, stored, unqualifiedName, nestedName, referenceOr, varType, scopeFrom, scope, listEnd, storedParam, newParam, paramsFrom, params, funcParams, templateName, plainName, rttiTypeDescriptor, rttiBaseClassDescriptor, specialName, unqualifiedBody, nestedOf, nestedBody, nameBody, pointee, element, nestedArray, dimensions, array, funcReturnType, funcType, memberClasses, memberFunctionPointer, named, pointing, letterType, noLetter, plainType, formType, varTypeBody, charsIs, encodedString, memberFunction, symbolTypeOf, symbolTypeBody, indexAndOne, guardIndex, parsed, parseOf, body}
 use Rattle.grammar.specs.Counts.{Node, heightOf, rises, readNodes}
 use Rattle.grammar.specs.Table.{cellsOf, sameNodes, readTable}

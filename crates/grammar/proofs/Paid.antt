@@ -35,7 +35,7 @@ use Rattle.forms.specs.declared.begins.NameForm.{NameForm}
 use Rattle.forms.specs.declared.begins.NameForm.the-variants as name
 use Rattle.grammar.specs.Program.{ret, part, Same}
 use Rattle.grammar.specs.Words.{expect, leaf, nameOf, typeOf}
-use Rattle.grammar.specs.Kind.{Kind, NamePlace, TypePlace, Ptr, Ref, RValueRef, Struct, Union, Class, Enum}
+use Rattle.node.specs.Kind.{Kind, NamePlace, TypePlace, Ptr, Ref, RValueRef, Struct, Union, Class, Enum}
 use Rattle.grammar.specs.Grammar.{Tag, Parse, OuterMd5, OuterTemplate, OuterGuard, MdFive, OuterName, SymbolType, NoType, GuardType, Name, Unqualified, Nested, VarType, Func, Dimension, Variadic, NoParams, NoReturn, Reading, place, name′, stored, unqualifiedName, nestedName, referenceOr, varType, scopeFrom, scope, listEnd, storedParam, newParam, paramsFrom, params, funcParams, templateName, plainName, rttiTypeDescriptor, rttiBaseClassDescriptor, specialName, unqualifiedBody, nestedOf, nestedBody, nameBody, pointee, element, nestedArray, dimensions, array, funcReturnType, funcType, memberClasses, memberFunctionPointer, named, pointing, letterType, noLetter, plainType, formType, varTypeBody, charsIs, encodedString, memberFunction, symbolTypeOf, symbolTypeBody, indexAndOne, guardIndex, parseOf, body}
 use Rattle.grammar.specs.Counts.{Node, asks, readNodes}
 use Rattle.grammar.specs.declared.State.{State}

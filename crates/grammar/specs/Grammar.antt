@@ -33,7 +33,7 @@ use Rattle.forms.specs.declared.begins.NameForm.{NameForm}
 use Rattle.forms.specs.declared.begins.NameForm.the-variants as name
 use Rattle.grammar.specs.Program.{Program, ret, fail, look, when, skip, part, node}
 use Rattle.grammar.specs.Words.{_>>=_, _>>_, _⇒_∥_, _↝_∥_, ordered, atEnd, expect, refuseIf, here, leaf, span, class, digit, memo, setMemo, memorizeName, memorizeType, nameOf, typeOf, negative, negated, number, unsigned, string, hexDigits}
-use Rattle.grammar.specs.Kind.{Kind, NamePlace, TypePlace, ParseResult, Symbol, OuterSymbol, Md5, Operator, RttiTypeDescriptor, RttiBaseClassDescriptor, NonTemplate, AsInterface, Template, Discriminator, ParsedName, AnonymousId, Anonymous, None, MemberFunction, MemberFunctionPointer, NonMemberFunction, CXXVBTable, CXXVFTable, VCallThunk, TemplateParameterWithIndex, ThreadSafeStaticGuard, Constant, ConstantString, Ptr, Ref, RValueRef, Array, Var, Alias, Struct, Union, Class, Enum, Basic, VarArgs, EmptyParameterPack, Nullptr, RTTIType, kindNumber}
+use Rattle.node.specs.Kind.{Kind, NamePlace, TypePlace, ParseResult, Symbol, OuterSymbol, Md5, Operator, RttiTypeDescriptor, RttiBaseClassDescriptor, NonTemplate, AsInterface, Template, Discriminator, ParsedName, AnonymousId, Anonymous, None, MemberFunction, MemberFunctionPointer, NonMemberFunction, CXXVBTable, CXXVFTable, VCallThunk, TemplateParameterWithIndex, ThreadSafeStaticGuard, Constant, ConstantString, Ptr, Ref, RValueRef, Array, Var, Alias, Struct, Union, Class, Enum, Basic, VarArgs, EmptyParameterPack, Nullptr, RTTIType, kindNumber}
 use Rattle.grammar.specs.declared.Memo.{Memo}
 
 -- the parts: each with what its reader is handed

@@ -1,6 +1,5 @@
 pub mod Program
 pub mod Words
-pub mod Kind
 pub mod Grammar
 pub mod Counts
 pub mod Table

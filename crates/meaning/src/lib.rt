@@ -17,16 +17,17 @@ pub fn kid(table: &[u32], n: usize, j: usize) -> usize
 }
 
 // The n bytes of the symbol from s on; none where it has them not all.
-fn part_of(symbol: &[u8], s: usize, n: usize) -> &[u8]
-    requires { ⌜ (s < 2 ^ 32) × (n < 2 ^ 32) ⌝ }
+pub fn part_of(symbol: &[u8], s: usize, n: usize) -> &[u8]
     ensures { λ r. ⌜ now r ≡ part (now (symbol .entry)) s n ⌝ }
 {
-    let e = s + n;
-    if e <= symbol.len() {
-        &symbol[s..e]
-    } else {
-        &symbol[..0]
+    if symbol.len() < s {
+        return &symbol[..0];
     }
+    if symbol.len() - s < n {
+        return &symbol[..0];
+    }
+    let e = s + n;
+    &symbol[s..e]
 }
 
 fn same_bytes(a: &[u8], b: &[u8]) -> bool

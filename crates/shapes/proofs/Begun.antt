@@ -20,7 +20,7 @@ use Rattle.forms.specs.declared.begins.NameForm.the-variants as name
 use Rattle.forms.specs.declared.begins.NameStart.{NameStart}
 use Rattle.grammar.specs.Program.{fail, sub, node, ret, run, at+}
 use Rattle.grammar.specs.Words.{ordered, atEnd, hexDigits}
-use Rattle.grammar.specs.Kind.{None}
+use Rattle.node.specs.Kind.{None}
 use Rattle.grammar.specs.Table.{shutTable, sameTable, readTable}
 use Rattle.grammar.specs.Grammar.{Reading, body, close, parseOf, symbolTypeOf, symbolTypeBody, memberFunction, nestedOf, nestedBody, plainName, charsIs, encodedString}
 use Rattle.grammar.specs.declared.State.{State}

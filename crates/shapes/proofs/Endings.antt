@@ -10,7 +10,7 @@ use borrow.Author.Tests.{le-leb, lt-leb, eq-eqb, ne-eqb}
 use Rattle.letters.specs.Classes.{readGuardMarker}
 use Rattle.grammar.specs.Program.{ret, when, sub, node, run}
 use Rattle.grammar.specs.Words.{leaf, unsigned, memorizeName}
-use Rattle.grammar.specs.Kind.{Operator}
+use Rattle.node.specs.Kind.{Operator}
 use Rattle.grammar.specs.Table.{laid}
 use Rattle.grammar.specs.Grammar.{Reading, close, rttiTypeDescriptor, rttiBaseClassDescriptor, isGuard, indexAndOne, guardIndex}
 use Rattle.grammar.specs.declared.State.{State}

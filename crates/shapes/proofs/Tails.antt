@@ -11,7 +11,7 @@ use Rattle.letters.specs.declared.Class.{Class}
 use Rattle.letters.proofs.Spelled.{sized-qualifier}
 use Rattle.grammar.specs.Program.{ret, sub, node, Reply, found, refused, Out, run}
 use Rattle.grammar.specs.Words.{leaf, class}
-use Rattle.grammar.specs.Kind.{MemberFunction, NonMemberFunction}
+use Rattle.node.specs.Kind.{MemberFunction, NonMemberFunction}
 use Rattle.grammar.specs.Table.{laid}
 use Rattle.grammar.specs.Grammar.{Reading, close, to, varType, funcReturnType, funcParams, plainFunction}
 use Rattle.grammar.specs.declared.State.{State}

@@ -13,7 +13,7 @@ use Rattle.forms.specs.declared.types.TypeLetter.{TypeLetter}
 use Rattle.forms.specs.declared.types.TypeLetter.the-variants as letter
 use Rattle.grammar.specs.Program.{ret, fail, when, part, sub, node}
 use Rattle.grammar.specs.Words.{_>>=_, _>>_, _⇒_∥_, expect, leaf, class, memorizeName, nameOf, number}
-use Rattle.grammar.specs.Kind.{RttiTypeDescriptor, RttiBaseClassDescriptor, Operator, ParsedName, NonMemberFunction, VCallThunk, Var}
+use Rattle.node.specs.Kind.{RttiTypeDescriptor, RttiBaseClassDescriptor, Operator, ParsedName, NonMemberFunction, VCallThunk, Var}
 use Rattle.grammar.specs.Grammar.{Reading, Parse, Func, close, to, name′, varType, pointee, array, memberFunctionPointer, funcType, funcReturnType, funcParams, memberFunction, plainFunction, scope, templateName, nestedOf, specialName, isGuard}
 use Rattle.grammar.specs.declared.State.{State}
 use Rattle.ends.specs.Ends.{leafName, storedUnless}

@@ -11,7 +11,7 @@ use Rattle.scan.specs.Bytes.{pick, bytes, starts}
 use Rattle.grammar.specs.Program.{ret, fail, look, when, part, sub, found, refused, Reply, Out, out, onward, run, with}
 use Rattle.grammar.specs.Words.{here, memo, setMemo, refuseIf}
 use Rattle.grammar.specs.Table.{readTable}
-use Rattle.grammar.specs.Kind.{NamePlace}
+use Rattle.node.specs.Kind.{NamePlace}
 use Rattle.grammar.specs.Grammar.{Tag, Dimension, Ans, Reading, nestedArray, element}
 use Rattle.grammar.specs.declared.Memo.{Memo}
 use Rattle.grammar.specs.declared.State.{State}

@@ -1,0 +1,41 @@
+//! The crate's texts of a symbol, under any flag word.
+use crate::traps;
+
+/// A symbol's tree, by both builds of the crate.
+pub struct Texts<'a> {
+    /// With its checks, or the name of the trap.
+    checked: Result<checked::ParseResult<'a>, String>,
+    unchecked: unchecked::ParseResult<'a>,
+    pub consumed: usize,
+}
+
+impl<'a> Texts<'a> {
+    /// Nothing where the crate refuses the symbol.
+    pub fn of(symbol: &'a str) -> Option<Texts<'a>> {
+        let (unchecked, consumed) = unchecked::parse_consumed(symbol);
+        let unchecked = unchecked.ok()?;
+        let checked = traps::caught(|| checked::parse(symbol))
+            .and_then(|parsed| parsed.map_err(|error| error.to_string()));
+        Some(Texts { checked, unchecked, consumed })
+    }
+
+    fn with_checks(&self, flags: u32) -> Result<String, String> {
+        let tree = self.checked.as_ref().map_err(String::clone)?;
+        let flags = checked::DemangleFlags::from_bits_retain(flags);
+        traps::caught(|| checked::serialize(tree, flags))
+    }
+
+    /// The text without the crate's checks, where arithmetic wraps.
+    pub fn without_checks(&self, flags: u32) -> String {
+        let flags = unchecked::DemangleFlags::from_bits_retain(flags);
+        unchecked::serialize(&self.unchecked, flags)
+    }
+
+    /// The text with the crate's checks; where they trap, the text without them, and the trap.
+    pub fn text(&self, flags: u32) -> (String, Option<String>) {
+        match self.with_checks(flags) {
+            Ok(text) => (text, None),
+            Err(trap) => (self.without_checks(flags), Some(trap)),
+        }
+    }
+}

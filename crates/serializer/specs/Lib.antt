@@ -1,0 +1,4 @@
+pub mod Flags
+pub mod Serializer
+pub mod Lists
+pub mod Pieces

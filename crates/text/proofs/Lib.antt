@@ -1,0 +1,6 @@
+pub mod Cut
+pub mod Seq
+pub mod Stores
+pub mod Digits
+pub mod Rows
+pub mod Room

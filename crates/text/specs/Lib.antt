@@ -1,0 +1,4 @@
+pub mod Emit
+pub mod Spaces
+pub mod Words
+pub mod Decimal

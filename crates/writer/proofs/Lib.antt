@@ -1,0 +1,4 @@
+pub mod Falls
+pub mod ByType
+pub mod ByName
+pub mod Ended
