@@ -18,6 +18,7 @@ use Rattle.grammar.specs.Program.{Reply, found, refused}
 use Rattle.grammar.specs.Counts.{Node}
 use Rattle.grammar.specs.Table.{cellsOf}
 use Rattle.grammar.specs.declared.State.{State}
+use Rattle.grammar.specs.declared.Refusal.{Refusal}
 use Rattle.grammar.specs.declared.Refusal.the-variants.{Syntax, Deep, Full}
 use Rattle.text.proofs.Cut.{cut-fits, cut-over}
 use Rattle.writer.specs.Written.{textOf, written}
@@ -25,7 +26,7 @@ use Rattle.writer.specs.declared.Written.the-variants.{Whole, Cut}
 use Rattle.farthingmoss.specs.declared.Counts.{Counts}
 use Rattle.farthingmoss.specs.declared.Answer.{Answer}
 use Rattle.farthingmoss.specs.declared.Answer.the-variants.{Answered, NoDerivation, NoRoom}
-use Rattle.farthingmoss.specs.Call.{fitted, demangled, tableAfter, textAfter}
+use Rattle.farthingmoss.specs.Call.{fitted, refusal, demangled, tableAfter, textAfter}
 use Rattle.farthingmoss.proofs.Reading.{own, cells-length, said, settlesAll, Within, within, within-answers, within-leaves, within-writes, within-formed}
 
 -- the text of the grammar's own tree, and its counts
@@ -39,7 +40,7 @@ pub written-whole : (room : ℕ) (w : List ℕ) → length w ≤ room → writte
 unfolding written
 written-whole room w l = rw (le-leb (length w) room l)
 
-written-cut : (room : ℕ) (w : List ℕ) → room < length w → written room w ≡ Cut
+pub written-cut : (room : ℕ) (w : List ℕ) → room < length w → written room w ≡ Cut
 unfolding written
 written-cut room w l = rw (lt-leb (length w) room l)
 
@@ -69,16 +70,35 @@ module _ {f depth : ℕ} {s t : List ℕ} (w : Within f depth s t) where
   pub refuses : (room : ℕ) → own s .reply ≡ refused Syntax → demangled f depth s t room ≡ NoDerivation (own s .state .at)
   refuses room e = within-answers w room ∙ rw e
 
-impossible : {A : Type 0} → _≡_ {A = ℕ} 0 1 → A
+pub impossible : {A : Type 0} → _≡_ {A = ℕ} 0 1 → A
 impossible z = absurd (omega arith)
 
-fitted-whole : (offset depth nodes room k : ℕ) (b : Bool) (c : Counts) → fitted offset depth nodes room (pick b (Whole k) Cut) ≡ Answered c → (b ≡ true) × (c ≡ record { offset = offset; depth = depth; nodes = nodes; text = k })
+pub fitted-whole : (offset depth nodes room k : ℕ) (b : Bool) (c : Counts) → fitted offset depth nodes room (pick b (Whole k) Cut) ≡ Answered c → (b ≡ true) × (c ≡ record { offset = offset; depth = depth; nodes = nodes; text = k })
 fitted-whole offset depth nodes room k true c e = (refl, cc)
 fitted-whole offset depth nodes room k false c e = (cc, cc)
 
-fitted-cut : (offset depth nodes room k : ℕ) (b : Bool) (c : Counts) → fitted offset depth nodes room (pick b (Whole k) Cut) ≡ NoRoom c → b ≡ false
+pub fitted-cut : (offset depth nodes room k : ℕ) (b : Bool) (c : Counts) → fitted offset depth nodes room (pick b (Whole k) Cut) ≡ NoRoom c → b ≡ false
 fitted-cut offset depth nodes room k true c e = cc
 fitted-cut offset depth nodes room k false c e = refl
+
+fitted-other : (why : Refusal) (offset depth nodes room k : ℕ) (b : Bool) (at : ℕ) {A : Type 0} → fitted offset depth nodes room (pick b (Whole k) Cut) ≡ refusal why at → A
+fitted-other Syntax offset depth nodes room k true at e = impossible (cc)
+fitted-other Syntax offset depth nodes room k false at e = impossible (cc)
+fitted-other Deep offset depth nodes room k true at e = impossible (cc)
+fitted-other Deep offset depth nodes room k false at e = impossible (cc)
+fitted-other Full offset depth nodes room k true at e = impossible (cc)
+fitted-other Full offset depth nodes room k false at e = impossible (cc)
+
+refusal-one : (why was : Refusal) (place at : ℕ) → refusal was place ≡ refusal why at → (refused was ≡ refused {A = ℕ} why) × (at ≡ place)
+refusal-one Syntax Syntax place at e = (refl, cc)
+refusal-one Syntax Deep place at e = (cc, cc)
+refusal-one Syntax Full place at e = (cc, cc)
+refusal-one Deep Syntax place at e = (cc, cc)
+refusal-one Deep Deep place at e = (refl, cc)
+refusal-one Deep Full place at e = (cc, cc)
+refusal-one Full Syntax place at e = (cc, cc)
+refusal-one Full Deep place at e = (cc, cc)
+refusal-one Full Full place at e = (refl, cc)
 
 module _ (f : ℕ) (s : List ℕ) (room : ℕ) (st : State) (ns : List Node) where
   said-answered : (r : Reply ℕ) (c : Counts) → said f s room r st ns ≡ Answered c →
@@ -99,16 +119,10 @@ module _ (f : ℕ) (s : List ℕ) (room : ℕ) (st : State) (ns : List Node) whe
   said-cut (refused Deep) c e = impossible (cc)
   said-cut (refused Full) c e = impossible (cc)
 
-  said-refused : (r : Reply ℕ) (at : ℕ) → said f s room r st ns ≡ NoDerivation at → (r ≡ refused Syntax) × (at ≡ st .at)
+  pub said-refused : (why : Refusal) (r : Reply ℕ) (at : ℕ) → said f s room r st ns ≡ refusal why at → (r ≡ refused why) × (at ≡ st .at)
   unfolding written
-  said-refused (found n) at e = go (leb (length (textOf f (cellsOf ns) s (n + 1))) room) e
-    where
-      go : (b : Bool) → fitted (st .at) (st .deep) (st .used) room (pick b (Whole (length (textOf f (cellsOf ns) s (n + 1)))) Cut) ≡ NoDerivation at → (found n ≡ refused Syntax) × (at ≡ st .at)
-      go true e = (cc, cc)
-      go false e = (cc, cc)
-  said-refused (refused Syntax) at e = (refl, cc)
-  said-refused (refused Deep) at e = (cc, cc)
-  said-refused (refused Full) at e = (cc, cc)
+  said-refused why (found n) at e = fitted-other why (st .at) (st .deep) (st .used) room (length (textOf f (cellsOf ns) s (n + 1))) (leb (length (textOf f (cellsOf ns) s (n + 1))) room) at e
+  said-refused why (refused was) at e = refusal-one why was (st .at) at e
 
 -- no other call is answered so: 0, 6 and 3
 pub record Accepted (f depth : ℕ) (s t : List ℕ) (room : ℕ) (c : Counts) : Type 0 where
@@ -148,5 +162,5 @@ module _ (f depth : ℕ) (s t : List ℕ) (room : ℕ) where
   pub rejected : {at : ℕ} → demangled f depth s t room ≡ NoDerivation at → Rejected f depth s t at
   rejected e =
       let w = within f depth s t room (ap settlesAll e) in
-      let d = said-refused f s room _ _ _ _ (says w e) in
+      let d = said-refused f s room _ _ Syntax _ _ (says w e) in
       record { holds = w; refuses = d .0; place = d .1 }

@@ -3,5 +3,9 @@ pub mod Flags
 pub mod OneAnswer
 pub mod Reading
 pub mod Grammar
+pub mod Left
 pub mod Budgets
+pub mod Exactly
 pub mod Alone
+pub mod AloneBudgets
+pub mod Told

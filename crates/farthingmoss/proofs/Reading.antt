@@ -2,7 +2,8 @@
 --     own              that reading, within no budget
 --     open-answers     a call's answer is that of the reading that the budgets settle, by its nodes alone
 --     Within           budgets that hold its counts: the call is the reading itself
---     within           no other call answers 0, 3 or 6
+--     isRead           which answers come of a reading
+--     within           only such a call answers 0, 3 or 6
 -- Assumes nothing.
 use Prim.Native.Nat.{ℕ, _+_, _*_, _≤_, _<_}
 use mathlib.Core.Bool.{Bool, true, false, cond}
@@ -22,8 +23,10 @@ use Rattle.grammar.specs.Counts.{Node, Log, readNodes, asks, settle, bare}
 use Rattle.grammar.specs.Table.{cellsOf, sameNodes}
 use Rattle.grammar.specs.Grammar.{Parse, body}
 use Rattle.grammar.specs.declared.State.{State}
+use Rattle.grammar.specs.declared.Refusal.{Refusal}
 use Rattle.grammar.specs.declared.Refusal.the-variants.{Syntax, Deep, Full}
-use Rattle.grammar.proofs.Demands.{settles, suffices, shallow, cramped, stands, passed}
+use Rattle.grammar.proofs.Demands.{settles, suffices, shallow, cramped, stands, passed, fits, fits-low, reports}
+use Rattle.grammar.proofs.First.{stopped}
 use Rattle.grammar.proofs.Formed as formed
 use Rattle.reader.specs.Whole.{start, whole, inside, told, cellsLeft}
 use Rattle.text.specs.Emit.{cut}
@@ -90,6 +93,14 @@ module _ (s : List ℕ) (depth room : ℕ) (low : depth ≤ 200) where
       formed.grammar-formed s short depth room start refl refl refl refl (sameNodes s)
       (settles-own ∙ ap (λ (r : Reply ℕ). out r (settle depth room (own s) .state) (settle depth room (own s) .cells)) e)
 
+-- within no budget it is refused for depth or room only where its own demands pass every depth
+pub own-low : (s : List ℕ) (depth room : ℕ) → depth ≤ 200 → fits depth room (own s .cells .asked) ≡ true → passed (own s .reply) ≡ true → ⊥
+own-low s depth room low h e =
+    let r = reports body (sameNodes s) s Parse start refl refl in
+    let f = fits-low depth room (own s .cells .asked) h in
+    let d = stopped body (sameNodes s) s Parse start e in
+    omega (arith, r .deep, f .0)
+
 -- what references to the nodes mean does not depend on the cells behind them
 pub cells-length : (ns : List Node) → length (cellsOf ns) ≡ length ns * 12
 cells-length [] = refl
@@ -136,11 +147,11 @@ module _ (f depth : ℕ) (s t : List ℕ) (opens : gate f depth s ≡ Open) wher
   unfolding demangled
   open-answers room = rw (opens, open-inside f depth s opens) (answer-kept f s _ _ room _ _ root-low)
 
-  open-leaves : tableAfter f depth s t ≡ cellsLeft (whole s depth t .reply) (whole s depth t .cells) ++ drop (length (whole s depth t .cells) * 12) t
+  pub open-leaves : tableAfter f depth s t ≡ cellsLeft (whole s depth t .reply) (whole s depth t .cells) ++ drop (length (whole s depth t .cells) * 12) t
   unfolding tableAfter
   open-leaves = rw (opens, open-inside f depth s opens)
 
-  open-writes : (b : List ℕ) → textAfter f depth s t b ≡ wrote f s b (whole s depth t .reply) (whole s depth t .cells)
+  pub open-writes : (b : List ℕ) → textAfter f depth s t b ≡ wrote f s b (whole s depth t .reply) (whole s depth t .cells)
   unfolding textAfter
   open-writes b = rw (opens, open-inside f depth s opens) (left-kept f s _ _ b _ root-low)
 
@@ -169,7 +180,34 @@ module _ {f depth : ℕ} {s t : List ℕ} (w : Within f depth s t) where
       subst (λ (o : Out ℕ (List Node)). (n : ℕ) → o .reply ≡ found n → formed.Whole s n (o .state) (o .cells)) within-whole
       (settles-formed s depth (nodes t) (open-low f depth s (w .opens)) (open-short f depth s (w .opens)))
 
--- and only such a call answers 0, 3 or 6
+-- a call that reads the symbol answers 0, 3, 4, 5 or 6, and no other call does
+abbrev pub isRead : Answer → Bool
+isRead (Answered c) = true
+isRead NoSymbol = false
+isRead (NotAscii at) = false
+isRead (NoDerivation at) = true
+isRead (TooDeep at) = true
+isRead (NoNode at) = true
+isRead (NoRoom c) = true
+isRead BadCall = false
+isRead BadTable = false
+
+through-open : (g : Gate) (a : Answer) → isRead (through g a) ≡ true → g ≡ Open
+through-open Open a e = refl
+through-open Call a e = cc
+through-open Symbol a e = cc
+through-open (High at) a e = cc
+
+pub demangled-open : (f depth : ℕ) (s t : List ℕ) (room : ℕ) → isRead (demangled f depth s t room) ≡ true → gate f depth s ≡ Open
+unfolding demangled
+demangled-open f depth s t room e = through-open (gate f depth s) _ e
+
+pub refusal-read : (why : Refusal) (at : ℕ) → isRead (refusal why at) ≡ true
+refusal-read Syntax at = refl
+refusal-read Deep at = refl
+refusal-read Full at = refl
+
+-- one that is not refused for depth or nodes
 abbrev pub settlesAll : Answer → Bool
 settlesAll (Answered c) = true
 settlesAll NoSymbol = false
@@ -181,11 +219,16 @@ settlesAll (NoRoom c) = true
 settlesAll BadCall = false
 settlesAll BadTable = false
 
-through-open : (g : Gate) (a : Answer) → settlesAll (through g a) ≡ true → g ≡ Open
-through-open Open a e = refl
-through-open Call a e = cc
-through-open Symbol a e = cc
-through-open (High at) a e = cc
+settles-read : (a : Answer) → settlesAll a ≡ true → isRead a ≡ true
+settles-read (Answered c) e = refl
+settles-read NoSymbol e = cc
+settles-read (NotAscii at) e = cc
+settles-read (NoDerivation at) e = refl
+settles-read (TooDeep at) e = cc
+settles-read (NoNode at) e = cc
+settles-read (NoRoom c) e = refl
+settles-read BadCall e = cc
+settles-read BadTable e = cc
 
 not-passed : (f : ℕ) (s : List ℕ) (room : ℕ) (r : Reply ℕ) (st : State) (ns : List Node) → settlesAll (said f s room r st ns) ≡ true → passed r ≡ false
 not-passed f s room (found n) st ns e = refl
@@ -193,13 +236,10 @@ not-passed f s room (refused Syntax) st ns e = refl
 not-passed f s room (refused Deep) st ns e = cc
 not-passed f s room (refused Full) st ns e = cc
 
-demangled-open : (f depth : ℕ) (s t : List ℕ) (room : ℕ) → settlesAll (demangled f depth s t room) ≡ true → gate f depth s ≡ Open
-unfolding demangled
-demangled-open f depth s t room e = through-open (gate f depth s) _ e
-
+-- is within its budgets
 pub within : (f depth : ℕ) (s t : List ℕ) (room : ℕ) → settlesAll (demangled f depth s t room) ≡ true → Within f depth s t
 within f depth s t room e =
-    let o = demangled-open f depth s t room e in
+    let o = demangled-open f depth s t room (settles-read (demangled f depth s t room) e) in
     let p = not-passed f s room (whole s depth t .reply) (whole s depth t .state) (whole s depth t .cells) (rw (open-answers f depth s t o room) at e) in
     let c = settles-stands s depth (nodes t) (open-low f depth s o) p in
     record { opens = o; deep = c .0; used = c .1 }

@@ -4,7 +4,7 @@ use Prim.Native.Nat.{ℕ, suc, _+_, _-_, _/_, _%_, _^_}
 use mathlib.Core.Bool.{Bool, false}
 use mathlib.Core.List.{List, [], _∷_}
 use lib.Dec.{leb, ltb, eqb}
-use lib.ListN.{length}
+use lib.ListN.{length, getD, set}
 use Rattle.scan.specs.Bytes.{pick}
 use Rattle.node.specs.Cells.{nodes, cellOf}
 use Rattle.form.specs.Form.{wellFormed}
@@ -133,3 +133,16 @@ nameAnswer s t n = through (symbolGate s) (pick (nameOk (length s) t n) (Answere
 -- that part of the symbol; its empty beginning on a refusal
 unfoldable pub nameOf : List ℕ → List ℕ → ℕ → List ℕ
 nameOf s t n = kept (symbolGate s) (pick (nameOk (length s) t n) (part s (cellOf t n 7) (cellOf t n 8)) []) []
+-- five places of a caller's report, filled
+abbrev pub filled : List ℕ → ℕ → ℕ → ℕ → ℕ → ℕ → List ℕ
+filled out number offset depth nodes text = set (set (set (set (set out 0 number) 1 offset) 2 depth) 3 nodes) 4 text
+
+abbrev pub reported : Answer → List ℕ → List ℕ
+reported a out = filled out (getD (reportOf a) 0 0) (getD (reportOf a) 1 0) (getD (reportOf a) 2 0) (getD (reportOf a) 3 0) (getD (reportOf a) 4 0)
+
+abbrev pub isAnswered : Answer → Bool
+isAnswered a = eqb (getD (reportOf a) 0 0) 0
+
+-- the report of the name question: an answered one has the name's start and length in its last two places
+abbrev pub nameReport : List ℕ → List ℕ → ℕ → List ℕ → List ℕ
+nameReport s t n out = pick (isAnswered (nameAnswer s t n)) (filled (reported (nameAnswer s t n) out) 0 0 0 (cellOf t n 7) (cellOf t n 8)) (reported (nameAnswer s t n) out)

@@ -19,7 +19,7 @@ use Rattle.grammar.specs.declared.State.{State}
 use Rattle.grammar.specs.declared.Refusal.{Refusal}
 use Rattle.grammar.specs.declared.Refusal.the-variants.{Syntax, Deep, Full}
 
-true-false : {A : Type 0} → _≡_ {A = Bool} true false → A
+pub true-false : {A : Type 0} → _≡_ {A = Bool} true false → A
 true-false e = let z : _≡_ {A = ℕ} 0 1 = cc in absurd (omega arith)
 
 not-true : (b : Bool) → (b ≡ true → ⊥) → b ≡ false
@@ -94,7 +94,7 @@ module _ (deepest nodes : ℕ) where
   fits-append (d ∷ ds) es h = holds-then (leb (d .count) (budget deepest nodes (d .limit))) (fits ds) _ _ _ h (fits-append ds es)
 
   -- demands that fit settle nothing; one that doesn't settles all, whatever follows
-  settled-append : {A : Type 0} (ds es : List Demand) (o : Out A (List Node)) → fits ds ≡ true → settled deepest nodes (ds ++ es) o ≡ settled deepest nodes es o
+  pub settled-append : {A : Type 0} (ds es : List Demand) (o : Out A (List Node)) → fits ds ≡ true → settled deepest nodes (ds ++ es) o ≡ settled deepest nodes es o
   settled-append [] es o h = refl
   settled-append (d ∷ ds) es o h = holds-then (leb (d .count) (budget deepest nodes (d .limit))) (fits ds) _ _ _ h (settled-append ds es o)
 
@@ -289,7 +289,7 @@ module _ (deepest nodes : ℕ) where
   high-step true room c m₁ m₂ t f k e = let q : c ≤ nodes = f refl in let r = k e in (r .0, omega (arith, r .1))
   high-step false lim c m₁ m₂ t f k e = true-false (sym e)
 
-  fits-low : (ds : List Demand) → fits deepest nodes ds ≡ true → (most depth ds ≤ deepest) × (most room ds ≤ nodes)
+  pub fits-low : (ds : List Demand) → fits deepest nodes ds ≡ true → (most depth ds ≤ deepest) × (most room ds ≤ nodes)
   fits-low [] e = (omega arith, omega arith)
   fits-low (d ∷ ds) e = high-step (leb (d .count) (budget deepest nodes (d .limit))) (d .limit) (d .count) (most depth ds) (most room ds) (fits deepest nodes ds) (leb-true _ _) (fits-low ds) e
 

@@ -2,6 +2,7 @@
 pub mod Laws
 pub mod Ordered
 pub mod Demands
+pub mod First
 pub mod Leaves
 pub mod Funded
 pub mod Paid
