@@ -5,11 +5,13 @@
 # Into OUT/checked and OUT/unchecked go the libraries and `oracle`.
 # Over the stand-ins of compare/standin/, or over the real bitflags and itoa in the folder VENDOR:
 # then with the checks on only, since that build is what the stand-ins are compared by.
+# The variable RUSTC has the compiler's words: rustc if it is not set.
 set -euo pipefail
 [ $# -ge 2 ] || { echo "usage: build.sh CRATE_SOURCE OUT [VENDOR]" >&2; exit 2; }
 here=$(dirname "$0")
 crate=$1/src/lib.rs
 out=$2
+read -ra rustc <<< "${RUSTC:-rustc}"
 bitflags=$here/standin/bitflags.rs
 itoa=$here/standin/itoa.rs
 if [ $# -ge 3 ]; then
@@ -23,7 +25,7 @@ build() { # profile, rustc's flags
   shift
   mkdir -p "$dir"
   library() { # name, source
-    rustc --crate-name "$1" --crate-type rlib --edition 2021 --cap-lints allow \
+    "${rustc[@]}" --crate-name "$1" --crate-type rlib --edition 2021 --cap-lints allow \
       -C metadata="$profile" "${@:3}" -L "$dir" --out-dir "$dir" "$2"
   }
   library bitflags "$bitflags" "$@"
@@ -31,7 +33,7 @@ build() { # profile, rustc's flags
   cat "$crate" "$here/src/consumed.rs" > "$dir/msvc_demangler.rs"
   library msvc_demangler "$dir/msvc_demangler.rs" "$@" \
     --extern bitflags="$dir/libbitflags.rlib" --extern itoa="$dir/libitoa.rlib"
-  rustc --crate-name oracle --edition 2021 -D warnings "$@" -L "$dir" \
+  "${rustc[@]}" --crate-name oracle --edition 2021 -D warnings "$@" -L "$dir" \
     --extern msvc_demangler="$dir/libmsvc_demangler.rlib" -o "$dir/oracle" "$here/src/oracle.rs"
 }
 build checked -C opt-level=2 -C debug-assertions=on -C overflow-checks=on &
