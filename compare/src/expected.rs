@@ -1,35 +1,41 @@
-//! What a call of the product should answer, and leave in the buffer for the text.
+//! What a call of the product should report, and leave in the buffer for the text.
 use crate::limits::{ACCEPTED, DEEPEST, LONGEST};
 use crate::model::Demands;
-use crate::writing::{self, Writing, CUT, OUTSIDE};
+use crate::writing::{self, Report, CUT, OUTSIDE};
 
 /// What the buffer held before; no text holds it.
 const OLD: u8 = 0xAA;
 /// Bytes behind the buffer, which no call changes.
 const BEHIND: usize = 32;
 
-/// The number and the offset of a reading into a table of so many nodes, by the plain model.
-pub fn reading(symbol: &[u8], demands: &Demands, nodes: usize) -> (u64, usize) {
+/// What a reading into a table of so many nodes reports, by the plain model; the text is not counted.
+/// The public call refuses an empty symbol before that.
+pub fn reading(symbol: &[u8], demands: &Demands, nodes: usize) -> Report {
     if symbol.len() > LONGEST {
-        return (OUTSIDE, 0);
+        return Report::refusal(OUTSIDE, 0);
     }
     let (number, offset, _) = demands.within(DEEPEST.into(), nodes);
-    (number, offset)
+    match number {
+        ACCEPTED => {
+            let (depth, nodes) = demands.counts();
+            Report { number, offset, depth, nodes, text: 0 }
+        }
+        _ => Report::refusal(number, offset),
+    }
 }
 
 /// A reading, and the text that follows from it: none where it is refused.
 pub struct Expected<'a> {
-    pub reading: (u64, usize),
+    pub reading: Report,
     pub text: &'a [u8],
 }
 
 impl Expected<'_> {
-    /// The answer where the buffer has this room.
-    pub fn writing(&self, room: usize) -> Writing {
-        let (number, offset) = self.reading;
-        let cut = number == ACCEPTED && self.text.len() > room;
-        let number = if cut { CUT } else { number };
-        Writing { number, offset, length: self.text.len().min(room) }
+    /// The report where the buffer has this room.
+    pub fn report(&self, room: usize) -> Report {
+        let cut = self.reading.number == ACCEPTED && self.text.len() > room;
+        let number = if cut { CUT } else { self.reading.number };
+        Report { number, text: self.text.len().min(room), ..self.reading }
     }
 
     /// The text as far as there is room, and old bytes behind it up to `end`.
@@ -48,8 +54,8 @@ impl Expected<'_> {
         room: usize,
     ) -> Option<String> {
         let mut buffer = vec![OLD; room + BEHIND];
-        let ours = writing::write(symbol, flags, table, &mut buffer[..room]);
-        let theirs = self.writing(room);
+        let ours = writing::read(symbol, flags, DEEPEST.into(), table, &mut buffer[..room]);
+        let theirs = self.report(room);
         if ours == theirs && buffer == self.left(room, buffer.len(), OLD) {
             return None;
         }

@@ -18,10 +18,10 @@ impl FlagWords {
         FlagWords(Random::new(SEED))
     }
 
-    /// The words for a symbol: no bit, all bits, each known bit alone, and other sets.
+    /// The words for a symbol: no bit, all known bits, each known bit alone, and other sets.
     pub fn next(&mut self) -> Vec<u32> {
         let single = (0..u32::BITS).map(|bit| 1 << bit).filter(|bit| KNOWN & bit != 0);
-        let mut words = vec![0, u32::MAX, LLVM, NO_THISTYPE];
+        let mut words = vec![0, KNOWN, LLVM, NO_THISTYPE];
         words.extend(single);
         words.extend((0..RANDOM_SETS).map(|_| self.random_set()));
         words

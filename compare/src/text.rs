@@ -1,5 +1,5 @@
-//! Compares the product's text with the crate's: each symbol under several flag words, and a sample
-//! of them in every room.
+//! Compares the product's text with the crate's, and its counts with the plain model's: each symbol
+//! under several flag words, and a sample of them in every room.
 //!
 //! usage: text COUNT TRIAL [LISTS]
 //!
@@ -33,6 +33,7 @@ use limits::{ACCEPTED, CELLS, MOST_NODES};
 use model::Demands;
 use tally::{Differences, Reasons};
 use texts::Texts;
+use writing::{Report, OUTSIDE};
 
 /// Room that a text leaves.
 const SPARE: usize = 2;
@@ -95,9 +96,9 @@ impl Comparison {
     }
 
     /// A symbol that is not read: nothing is written.
-    fn compare_refusal(&mut self, symbol: &str, reading: (u64, usize), nodes: usize) {
+    fn compare_refusal(&mut self, symbol: &str, reading: Report, nodes: usize) {
         if self.agrees((symbol, 0), &Expected { reading, text: b"" }, nodes, SPARE) {
-            self.tally.refused.add(format!("with {}", reading.0));
+            self.tally.refused.add(format!("with {}", reading.number));
         }
     }
 
@@ -119,10 +120,16 @@ impl Comparison {
     }
 
     /// One flag word, in every room if that is asked for.
-    fn compare_pair(&mut self, pair: (&str, u32), texts: &Texts, every_room: bool) {
+    fn compare_pair(
+        &mut self,
+        pair: (&str, u32),
+        texts: &Texts,
+        reading: Report,
+        every_room: bool,
+    ) {
         let (text, trap) = texts.text(pair.1);
         trap.into_iter().for_each(|trap| self.tally.traps.add(trap));
-        let expected = Expected { reading: (ACCEPTED, texts.consumed), text: text.as_bytes() };
+        let expected = Expected { reading, text: text.as_bytes() };
         if self.agrees(pair, &expected, MOST_NODES, text.len() + SPARE) {
             self.tally.pairs += 1;
         }
@@ -133,12 +140,15 @@ impl Comparison {
 
     fn compare_texts(&mut self, symbol: &str, texts: &Texts, demands: &Demands) {
         self.tally.symbols += 1;
+        // The crate tells the bytes consumed, the model the counts.
+        let reading = expected::reading(symbol.as_bytes(), demands, MOST_NODES);
+        let reading = Report { offset: texts.consumed, ..reading };
         let sample = self.tally.symbols / SAMPLED;
         let sampled = self.tally.symbols.is_multiple_of(SAMPLED);
         let words = self.words.next();
         for (place, flags) in words.iter().enumerate() {
             let every_room = sampled && place == sample % words.len();
-            self.compare_pair((symbol, *flags), texts, every_room);
+            self.compare_pair((symbol, *flags), texts, reading, every_room);
         }
         if sampled {
             self.compare_full(symbol, demands);
@@ -146,9 +156,12 @@ impl Comparison {
     }
 
     fn compare(&mut self, symbol: &str) {
+        if symbol.is_empty() {
+            return self.compare_refusal(symbol, Report::refusal(OUTSIDE, 0), MOST_NODES);
+        }
         let demands = Demands::of(symbol.as_bytes());
         let reading = expected::reading(symbol.as_bytes(), &demands, MOST_NODES);
-        if reading.0 != ACCEPTED {
+        if reading.number != ACCEPTED {
             return self.compare_refusal(symbol, reading, MOST_NODES);
         }
         if demands.too_heavy() {

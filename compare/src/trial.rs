@@ -22,13 +22,13 @@ fn printed(line: &str) -> Option<String> {
     let symbol = line.get(13..)?;
     let demands = Demands::of(symbol.as_bytes());
     let reading = expected::reading(symbol.as_bytes(), &demands, MOST_NODES);
-    let text = match reading.0 {
+    let text = match reading.number {
         ACCEPTED => Texts::of(symbol)?.without_checks(flags),
         _ => String::new(),
     };
     let expected = Expected { reading, text: text.as_bytes() };
     let shown = room.min(text.len() + SHOWN_BEHIND);
-    match expected.writing(room).number {
+    match expected.report(room).number {
         number @ (ACCEPTED | CUT) => {
             let left = expected.left(room, shown, OLD);
             Some(format!("{line}\t{number}\t{}", String::from_utf8(left).ok()?))

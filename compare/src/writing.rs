@@ -1,47 +1,64 @@
-//! The product's reading and writing of a symbol, by the one function of its static library.
+//! The product's reading and writing of a symbol, by the call of its static library.
 
-#[link(name = "writer_export", kind = "static")]
+#[link(name = "farthingmoss", kind = "static")]
 extern "C" {
-    fn farthingmoss_writing(
+    fn farthingmoss_read(
         symbol: *const u8,
-        len: usize,
+        symbol_len: usize,
         flags: u32,
+        depth: u32,
         table: *mut u32,
         table_len: usize,
         text: *mut u8,
         text_len: usize,
-        out: *mut [u64; 3],
+        report: *mut [u64; 5],
     );
 }
 
-/// Numbers beside those of a reading: the symbol is too long to be read; the text is cut.
+/// Numbers beside those of a reading: the symbol is empty or too long; the text is cut.
 pub const OUTSIDE: u64 = 1;
 pub const CUT: u64 = 6;
 
+/// What a call reports.
 #[derive(Clone, Copy, Debug, PartialEq)]
-pub struct Writing {
+pub struct Report {
     pub number: u64,
     /// Bytes of the symbol that are consumed.
     pub offset: usize,
+    pub depth: usize,
+    pub nodes: usize,
     /// Bytes of the text in the buffer.
-    pub length: usize,
+    pub text: usize,
 }
 
-pub fn write(symbol: &[u8], flags: u32, table: &mut [u32], text: &mut [u8]) -> Writing {
-    let mut out = [u64::MAX; 3];
+impl Report {
+    /// A refusal has no counts.
+    pub fn refusal(number: u64, offset: usize) -> Report {
+        Report { number, offset, depth: 0, nodes: 0, text: 0 }
+    }
+
+    /// From the call's five numbers.
+    pub fn of(report: [u64; 5]) -> Report {
+        let [_, offset, depth, nodes, text] = report.map(|value| value as usize);
+        Report { number: report[0], offset, depth, nodes, text }
+    }
+}
+
+pub fn read(symbol: &[u8], flags: u32, depth: u32, table: &mut [u32], text: &mut [u8]) -> Report {
+    let mut report = [u64::MAX; 5];
     // SAFETY: the slices live through the call, which reads and writes within their lengths.
     unsafe {
-        farthingmoss_writing(
+        farthingmoss_read(
             symbol.as_ptr(),
             symbol.len(),
             flags,
+            depth,
             table.as_mut_ptr(),
             table.len(),
             text.as_mut_ptr(),
             text.len(),
-            &mut out,
+            &mut report,
         );
     }
-    let [number, offset, length] = out;
-    Writing { number, offset: offset as usize, length: length as usize }
+    Report::of(report)
 }
