@@ -11,13 +11,16 @@ extern "C" {
         table_len: usize,
         text: *mut u8,
         text_len: usize,
-        report: *mut [u64; 5],
+        report: *mut u64,
     );
 }
 
 /// Numbers beside those of a reading: the symbol is empty or too long; the text is cut.
 pub const OUTSIDE: u64 = 1;
 pub const CUT: u64 = 6;
+
+/// What stands in a report and behind it before a call.
+const OLD: u64 = u64::MAX;
 
 /// What a call reports.
 #[derive(Clone, Copy, Debug, PartialEq)]
@@ -37,17 +40,20 @@ impl Report {
         Report { number, offset, depth: 0, nodes: 0, text: 0 }
     }
 
-    /// From the call's five numbers.
-    pub fn of(report: [u64; 5]) -> Report {
-        let [_, offset, depth, nodes, text] = report.map(|value| value as usize);
-        Report { number: report[0], offset, depth, nodes, text }
+    /// What a call writes, which is handed the place of its five numbers.
+    pub fn of(call: impl FnOnce(*mut u64)) -> Report {
+        let mut report = [OLD; 6];
+        call(report.as_mut_ptr());
+        let [number, offset, depth, nodes, text, behind] = report;
+        assert_eq!(behind, OLD, "a call writes behind its report");
+        let [offset, depth, nodes, text] = [offset, depth, nodes, text].map(|it| it as usize);
+        Report { number, offset, depth, nodes, text }
     }
 }
 
 pub fn read(symbol: &[u8], flags: u32, depth: u32, table: &mut [u32], text: &mut [u8]) -> Report {
-    let mut report = [u64::MAX; 5];
     // SAFETY: the slices live through the call, which reads and writes within their lengths.
-    unsafe {
+    Report::of(|report| unsafe {
         farthingmoss_read(
             symbol.as_ptr(),
             symbol.len(),
@@ -57,8 +63,7 @@ pub fn read(symbol: &[u8], flags: u32, depth: u32, table: &mut [u32], text: &mut
             table.len(),
             text.as_mut_ptr(),
             text.len(),
-            &mut report,
-        );
-    }
-    Report::of(report)
+            report,
+        )
+    })
 }
