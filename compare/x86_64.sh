@@ -37,8 +37,8 @@ x86_64_install() {
   command -v apt-get > /dev/null && [ "$(id -u)" -eq 0 ] || return
   echo "x86-64: installing ${x86_64_packages[*]}" >&2
   {
-    dpkg --add-architecture amd64 && apt-get update &&
-      DEBIAN_FRONTEND=noninteractive apt-get install -y --no-install-recommends "${x86_64_packages[@]}"
+    dpkg --add-architecture amd64 && timeout 120 apt-get update &&
+      DEBIAN_FRONTEND=noninteractive timeout 300 apt-get install -y --no-install-recommends "${x86_64_packages[@]}"
   } > /dev/null 2>&1 || echo "x86-64: the packages could not be installed" >&2
 }
 

@@ -52,8 +52,10 @@ blamed {l} {at} f deepest s t space e = go (fits deepest (nodes t) (own s .cells
   where
     opens : gate f deepest s ≡ Open
     opens = demangled-open f deepest s t space (ap isRead e ∙ refusal-read (name l) at)
+
     said-so : (whole s deepest t .reply ≡ refused (name l)) × (at ≡ whole s deepest t .state .at)
     said-so = grammar.said-refused f s space (whole s deepest t .state) (whole s deepest t .cells) (name l) (whole s deepest t .reply) at (sym (open-answers f deepest s t opens space) ∙ e)
+
     go : (b : Bool) → fits deepest (nodes t) (own s .cells .asked) ≡ b → Blamed l f deepest s t at
     go true h = absurd (own-low s deepest (nodes t) (open-low f deepest s opens) h (ap (passed {A = ℕ}) (ap (λ (o : Out ℕ (List Node)). o .reply) (sym (settled-fits deepest (nodes t) (own s .cells .asked) (bare (own s)) h)) ∙ said-so .0) ∙ name-passed l))
     go false h =

@@ -89,7 +89,7 @@ fitted-other Deep offset depth nodes room k false at e = impossible (cc)
 fitted-other Full offset depth nodes room k true at e = impossible (cc)
 fitted-other Full offset depth nodes room k false at e = impossible (cc)
 
-refusal-one : (why was : Refusal) (place at : ℕ) → refusal was place ≡ refusal why at → (refused was ≡ refused {A = ℕ} why) × (at ≡ place)
+refusal-one : (why was : Refusal) (place at : ℕ) → refusal was place ≡ refusal why at → (_≡_ {A = Reply ℕ} (refused was) (refused why)) × (at ≡ place)
 refusal-one Syntax Syntax place at e = (refl, cc)
 refusal-one Syntax Deep place at e = (cc, cc)
 refusal-one Syntax Full place at e = (cc, cc)

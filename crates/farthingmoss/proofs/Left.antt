@@ -57,10 +57,10 @@ module _ (f depth : ℕ) (s t b : List ℕ) where
   pub untouched : isRead (demangled f depth s t (length b)) ≡ false → (tableAfter f depth s t ≡ t) × (textAfter f depth s t b ≡ b)
   untouched e =
       gate-left (gate f depth s) refl
-      (λ o. impossible (let z : _≡_ {A = Bool} true false = sym (said-read f s (length b) _ _ _) ∙ sym (ap isRead (open-answers f depth s t o (length b))) ∙ e in cc))
+      (λ o. impossible (let z : _≡_ {A = Bool} true false = sym (said-read f s (length b) (whole s depth t .reply) (whole s depth t .state) (whole s depth t .cells)) ∙ sym (ap isRead (open-answers f depth s t o (length b))) ∙ e in cc))
 
-  pub refused-left : {why : Refusal} {at : ℕ} (room : ℕ) → demangled f depth s t room ≡ refusal why at → (k : ℕ) × (tableAfter f depth s t ≡ replicate (k * 12) 0 ++ drop (k * 12) t) × (textAfter f depth s t b ≡ b)
-  refused-left {why} {at} room e =
+  pub refused-left : (why : Refusal) (room at : ℕ) → demangled f depth s t room ≡ refusal why at → (k : ℕ) × (tableAfter f depth s t ≡ replicate (k * 12) 0 ++ drop (k * 12) t) × (textAfter f depth s t b ≡ b)
+  refused-left why room at e =
       let o = demangled-open f depth s t room (ap isRead e ∙ refusal-read why at) in
       let r = said-refused f s room (whole s depth t .state) (whole s depth t .cells) why (whole s depth t .reply) at (sym (open-answers f depth s t o room) ∙ e) .0 in
       (length (whole s depth t .cells), open-leaves f depth s t o ∙ rw r, open-writes f depth s t o b ∙ rw r)
@@ -82,12 +82,12 @@ behind-text {c} f depth s t b e =
     ∙ ap (λ (k : ℕ). drop k b) (sym z)
 
 -- what stood in the table does not matter: a call asks for its room alone
+same-gate : (f depth : ℕ) (s t t′ : List ℕ) (room : ℕ) (g : Gate) → gate f depth s ≡ g → (g ≡ Open → demangled f depth s t room ≡ demangled f depth s t′ room) → demangled f depth s t room ≡ demangled f depth s t′ room
+unfolding demangled
+same-gate f depth s t t′ room Open o k = k refl
+same-gate f depth s t t′ room Call o k = rw o
+same-gate f depth s t t′ room Symbol o k = rw o
+same-gate f depth s t t′ room (High at) o k = rw o
+
 pub old-cells : (f depth : ℕ) (s t t′ : List ℕ) (room : ℕ) → nodes t ≡ nodes t′ → demangled f depth s t room ≡ demangled f depth s t′ room
-old-cells f depth s t t′ room e = go (gate f depth s) refl
-  where
-    go : (g : Gate) → gate f depth s ≡ g → demangled f depth s t room ≡ demangled f depth s t′ room
-    unfolding demangled
-    go Open o = open-answers f depth s t o room ∙ rw e (sym (open-answers f depth s t′ o room))
-    go Call o = rw o
-    go Symbol o = rw o
-    go (High at) o = rw o
+old-cells f depth s t t′ room e = same-gate f depth s t t′ room (gate f depth s) refl (λ o. open-answers f depth s t o room ∙ rw e (sym (open-answers f depth s t′ o room)))

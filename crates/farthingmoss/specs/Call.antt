@@ -133,6 +133,7 @@ nameAnswer s t n = through (symbolGate s) (pick (nameOk (length s) t n) (Answere
 -- that part of the symbol; its empty beginning on a refusal
 unfoldable pub nameOf : List ℕ → List ℕ → ℕ → List ℕ
 nameOf s t n = kept (symbolGate s) (pick (nameOk (length s) t n) (part s (cellOf t n 7) (cellOf t n 8)) []) []
+
 -- five places of a caller's report, filled
 abbrev pub filled : List ℕ → ℕ → ℕ → ℕ → ℕ → ℕ → List ℕ
 filled out number offset depth nodes text = set (set (set (set (set out 0 number) 1 offset) 2 depth) 3 nodes) 4 text

@@ -2,7 +2,9 @@
 ghost use mathlib.Core.Path.{_≡_};
 ghost use lib.ListN.{length};
 ghost use Rattle.farthingmoss.specs.Call.{knownFlags, highAt, symbolGate, gate, fitted, refusal, answerOf, textLeft, demangled, tableAfter, textAfter, rooted, rootAnswer, rootText, writtenAlone, textAlone, nameOk, nameAnswer, nameOf};
+
 pub mod exports;
+
 use grammar::Refusal;
 use grammar::State;
 use reader::Whole;
