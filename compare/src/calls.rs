@@ -18,6 +18,7 @@ mod generate;
 mod grown;
 mod known;
 mod limits;
+mod made;
 mod model;
 mod random;
 mod shape;
@@ -49,6 +50,8 @@ const LONGEST_TEXT: usize = 300;
 /// One in so many tables that are small enough is damaged.
 const DAMAGED: usize = 4;
 const MOST_DAMAGED: usize = 12;
+/// Tables that are made at random, for each symbol that is.
+const RANDOM_TABLES: usize = 20;
 
 /// So many out of these, spread evenly.
 fn spread(symbols: Vec<Vec<u8>>, count: usize) -> impl Iterator<Item = Vec<u8>> {
@@ -128,6 +131,8 @@ fn compare(count: usize, trial: &Path, lists: Option<String>) -> io::Result<bool
         left_out: Reasons::default(),
     };
     gates::try_all(&mut comparison.trials);
+    made::try_kinds(&mut comparison.tables, &mut comparison.trials);
+    made::try_random(&mut comparison.tables, &mut comparison.trials, count * RANDOM_TABLES);
     let mut symbols: Vec<_> = sources::generated(count).collect();
     symbols.extend(spread(cases(trial)?, count));
     if let Some(lists) = lists {

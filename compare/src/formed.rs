@@ -10,12 +10,12 @@ const ANY: u32 = u32::MAX;
 const CLASS: u32 = 511;
 
 /// What a kind is, which things its references may name (`-` is nothing), and its largest numbers.
-struct Kind {
+pub struct Kind {
     is: char,
-    references: [&'static str; 3],
-    numbers: [u32; 4],
+    pub references: [&'static str; 3],
+    pub numbers: [u32; 4],
     /// Whether the first two numbers are a start and a length in the symbol.
-    bytes: bool,
+    pub bytes: bool,
 }
 
 fn kind(is: char, references: [&'static str; 3], numbers: [u32; 4]) -> Option<Kind> {
@@ -34,7 +34,7 @@ fn bytes(is: char) -> Option<Kind> {
 /// The kinds by number. Things: `N` and `L` places of names and types, `R` parsed, `s` symbol, `o`
 /// outer symbol, `5` MD5 name, `+` operator name, `p` plain, `c` scoped and `n` nested name, `0` no
 /// type, `O` outer type, `t` type, `f` function, `v` VarArgs.
-fn kind_of(number: u32) -> Option<Kind> {
+pub fn kind_of(number: u32) -> Option<Kind> {
     match number {
         1 => kind('N', ["N-", "pcn", "-"], [0; 4]),
         2 => kind('L', ["L-", "tfv", "-"], [0; 4]),
@@ -78,7 +78,7 @@ pub fn nodes(table: &[u32]) -> &[[u32; CELLS]] {
 }
 
 /// The height and the thing that a reference to one of these nodes names; nothing if to none of them.
-fn named(nodes: &[[u32; CELLS]], reference: u32) -> Option<(u32, char)> {
+pub fn named(nodes: &[[u32; CELLS]], reference: u32) -> Option<(u32, char)> {
     match reference.checked_sub(1) {
         None => Some((0, '-')),
         Some(place) => {

@@ -22,8 +22,8 @@ pub struct Tables {
 }
 
 impl Tables {
-    /// The writer on any table, within the largest depth.
-    fn write(&self, trials: &mut Trials, kind: &str, call: Call, table: &[u32]) {
+    /// The writer on any table.
+    pub fn write(&self, trials: &mut Trials, kind: &str, call: Call, table: &[u32]) {
         let text = grown::text(&self.operators, call.symbol, table, call.flags);
         let should = known::alone(call, table, &text, ROOM);
         trials.write(kind, call, (table, ROOM), &should);
