@@ -1,0 +1,3 @@
+pub mod Splits
+pub mod Answers
+pub mod Steps
