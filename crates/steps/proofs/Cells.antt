@@ -1,6 +1,6 @@
 -- Closing a node by its cells: the height of what it refers to, the limit, the room, and the counted node. Assumes nothing.
 use Prim.Native.Nat.{ℕ, _+_, _≤_, _<_}
-use mathlib.Core.Path.{_≡_, sym, ap, _∙_}
+use mathlib.Core.Path.{_≡_, sym, ap, subst, _∙_}
 use mathlib.Core.List.{List, [], _∷_}
 use native.Mathlib.Omega.{arith}
 use native.Mathlib.Nat.{add-zero}
@@ -12,9 +12,11 @@ use Rattle.grammar.specs.Table.{counted, tallestIn}
 use Rattle.grammar.specs.declared.State.{State}
 use Rattle.grammar.specs.declared.Refusal.{Refusal}
 use Rattle.grammar.specs.declared.Refusal.the-variants.{Deep, Full}
-use Rattle.steps.specs.Does.{refusedAt, foundAt, raised, shutCells, Shuts, Puts, Small, Tops}
+use Rattle.steps.specs.Does.{refusedAt, foundAt, raised, shutCells, Shuts, Puts, LaidRoom, Small, Tops}
 use Rattle.steps.specs.declared.state.Answer.the-variants.{Node, Refused}
 use Rattle.steps.specs.declared.state.Got.{Got}
+use Rattle.steps.specs.declared.close.Verdict.{Verdict}
+use Rattle.steps.specs.declared.close.Verdict.the-variants.{Done}
 
 -- a counted node's reference has sixteen bits
 pub small-refused : {why : Refusal} {st : State} {g : Got} → g ≡ refusedAt why st → Small g
@@ -22,6 +24,9 @@ small-refused {why} e = record { is = λ n f. let z : _≡_ {A = ℕ} 0 1 = cc i
 
 pub small-found : {m extra : ℕ} {st : State} {g : Got} → g ≡ foundAt m extra st → m + 1 < 65536 → Small g
 small-found {m} e h = record { is = λ n f. let k : n ≡ m = cc in omega arith }
+
+pub room-done : (v : Verdict) (used : ℕ) → v ≡ Done → LaidRoom v used → used + 1 < 65536
+room-done v used e h = subst (λ (v : Verdict). LaidRoom v used) e h
 
 -- one node more, where there is room
 module _ {room depth : ℕ} {x : row.Node} {st : State} {t : List ℕ} {g : Got} where

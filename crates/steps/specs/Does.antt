@@ -24,7 +24,8 @@ use Rattle.grammar.specs.Table.{counted, tallestIn, shutAt, shutTable, sameTabl
 use Rattle.grammar.specs.Grammar.{Tag, Ans, Reading, body, to}
 use Rattle.grammar.specs.declared.State.{State}
 use Rattle.grammar.specs.declared.Refusal.{Refusal}
-use Rattle.grammar.specs.declared.Refusal.the-variants.{Syntax, Full}
+use Rattle.grammar.specs.declared.Memo.{Memo}
+use Rattle.grammar.specs.declared.Refusal.the-variants.{Syntax, Deep, Full}
 use Rattle.steps.specs.declared.state.Answer.{Answer}
 use Rattle.steps.specs.declared.state.Answer.the-variants.{Node, Refused}
 use Rattle.steps.specs.declared.state.Got.{Got}
@@ -32,6 +33,9 @@ use Rattle.steps.specs.declared.state.Value.{Value}
 use Rattle.steps.specs.declared.state.Value.the-variants.{Is, Bad}
 use Rattle.steps.specs.declared.state.Took.{Took}
 use Rattle.steps.specs.declared.state.Classed.{Classed}
+use Rattle.steps.specs.declared.close.Laid.{Laid}
+use Rattle.steps.specs.declared.close.Verdict.{Verdict}
+use Rattle.steps.specs.declared.close.Verdict.the-variants as verdict
 
 abbrev pub refusedAt : Refusal → State → Got
 refusedAt why st = record { answer = Refused why; extra = 0; state = st }
@@ -151,6 +155,28 @@ pub record Shuts (limit room : ℕ) (x : row.Node) (st : State) (t : List ℕ) (
 -- one node more, where there is room
 pub record Puts (room depth : ℕ) (x : row.Node) (st : State) (t : List ℕ) (g : Got) (t′ : List ℕ) : Type 0 where
   pub is : goes plain g t′ ≡ pick (leb (st .used + 1) room) (out (found (st .used)) (closed depth st) (stored t (st .used) x)) (out (refused Full) st t)
+
+-- the same without the state: what a verdict comes to from a state with these counts, whatever else it holds
+abbrev pub gotBy : Verdict → ℕ → State → Got
+gotBy verdict.Done deep st = foundAt (st .used) 0 (record { at = st .at; used = st .used + 1; deep = deep; memo = st .memo })
+gotBy verdict.Deep deep st = refusedAt Deep st
+gotBy verdict.Full deep st = refusedAt Full st
+
+abbrev pub LaidRoom : Verdict → ℕ → Type 0
+LaidRoom verdict.Done used = used + 1 < 65536
+LaidRoom verdict.Deep used = Unit {0}
+LaidRoom verdict.Full used = Unit {0}
+
+abbrev pub counting : ℕ → ℕ → ℕ → Memo → State
+counting at used deep m = record { at = at; used = used; deep = deep; memo = m }
+
+pub record Stores (room depth : ℕ) (x : row.Node) (used deep : ℕ) (t : List ℕ) (l : Laid) (t′ : List ℕ) : Type 0 where
+  pub is : (at : ℕ) (m : Memo) → Puts room depth x (counting at used deep m) t (gotBy (l .verdict) (l .deep) (counting at used deep m)) t′
+  pub fits : LaidRoom (l .verdict) used
+
+pub record Lays (limit room : ℕ) (x : row.Node) (used deep : ℕ) (t : List ℕ) (l : Laid) (t′ : List ℕ) : Type 0 where
+  pub is : (at : ℕ) (m : Memo) → Shuts limit room x (counting at used deep m) t (gotBy (l .verdict) (l .deep) (counting at used deep m)) t′
+  pub fits : LaidRoom (l .verdict) used
 
 -- a counted node has a reference in sixteen bits
 pub record Small (g : Got) : Type 0 where

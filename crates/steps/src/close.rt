@@ -4,7 +4,7 @@ ghost use mathlib.Core.List.{List, [], _∷_};
 ghost use Prim.Native.Nat.{ℕ, _+_, _<_, _≤_, _^_, max};
 ghost use Rattle.grammar.specs.Table.{laid, tallestIn};
 ghost use Rattle.grammar.specs.Grammar.{to};
-ghost use Rattle.steps.specs.Does.{plain, Does, Follows, Shuts, Puts, Small, Tops, raised, rowOf, placeOf, foundAt};
+ghost use Rattle.steps.specs.Does.{plain, Does, Follows, Shuts, Stores, Lays, LaidRoom, gotBy, Small, Tops, raised, rowOf, placeOf, foundAt};
 use crate::memo::counted;
 use crate::state::Answer;
 use crate::state::Got;
@@ -64,51 +64,90 @@ fn raised_to(x: Node, height: u32) -> Node
     }
 }
 
-// Counts the node x where there is room for one more; it asks for this depth.
-fn put(t: &mut [u32], st: State, room: u16, x: Node, depth: u16) -> Got
-    ensures { λ r. ⌜ Puts room depth x st (now (t .entry)) r (now (t .exit)) ⌝ }
-    ensures { λ r. ⌜ Small r ⌝ }
+pub enum Verdict {
+    Done,
+    Deep,
+    Full,
+}
+
+// What closing a node comes to, and the depth behind it.
+pub struct Laid {
+    pub verdict: Verdict,
+    pub deep: u32,
+}
+
+// Stores the node x where there is room for one more; it asks for this depth.
+fn put(t: &mut [u32], used: u16, deep: u32, room: u16, x: Node, depth: u32) -> Laid
+    ensures { λ r. ⌜ Stores room depth x used deep (now (t .entry)) r (now (t .exit)) ⌝ }
 {
-    let used = st.used;
     if room <= used {
-        return refused(Refusal::Full, st);
+        return Laid {
+            verdict: Verdict::Full,
+            deep,
+        };
     }
     node::put_node(t, used as usize, x);
-    let m = st.memo;
-    let next = State {
-        at: st.at,
-        used: used + 1,
-        deep: larger(st.deep, depth),
-        memo: m,
-    };
-    found(used, next)
+    Laid {
+        verdict: Verdict::Done,
+        deep: larger(deep, depth),
+    }
+}
+
+// Stores the node x within the limits. It takes and gives no state, since the states are large and every node passes here.
+fn lay(t: &mut [u32], used: u16, deep: u32, lim: Limits, x: Node) -> Laid
+    ensures { λ r. ⌜ Lays (lim .depth) (lim .room) x used deep (now (t .entry)) r (now (t .exit)) ⌝ }
+{
+    let top = tallest(counted(t, used), x);
+    if x.kind <= 2 {
+        return put(t, used, deep, lim.room, raised_to(x, top as u32), 0);
+    }
+    if (lim.depth as usize) <= top {
+        return Laid {
+            verdict: Verdict::Deep,
+            deep,
+        };
+    }
+    let height = (top + 1) as u32;
+    put(t, used, deep, lim.room, raised_to(x, height), height)
+}
+
+// The answer of a closed node, and the state behind it.
+fn closed(l: Laid, st: State) -> Got
+    requires { ⌜ LaidRoom (l .verdict) (st .used) ⌝ }
+    ensures { λ r. ⌜ r ≡ gotBy (l .verdict) (l .deep) st ⌝ }
+    ensures { λ r. ⌜ Small r ⌝ }
+{
+    let v = l.verdict;
+    match v {
+        Verdict::Done => {
+            let m = st.memo;
+            let next = State {
+                at: st.at,
+                used: st.used + 1,
+                deep: l.deep,
+                memo: m,
+            };
+            found(st.used, next)
+        }
+        Verdict::Deep => refused(Refusal::Deep, st),
+        Verdict::Full => refused(Refusal::Full, st),
+    }
 }
 
 pub fn shut(t: &mut [u32], st: State, lim: Limits, x: Node) -> Got
     ensures { λ r. ⌜ Shuts (lim .depth) (lim .room) x st (now (t .entry)) r (now (t .exit)) ⌝ }
     ensures { λ r. ⌜ Small r ⌝ }
 {
-    let top = tallest(counted(t, st.used), x);
-    if x.kind <= 2 {
-        return put(t, st, lim.room, raised_to(x, top as u32), 0);
-    }
-    if (lim.depth as usize) <= top {
-        return refused(Refusal::Deep, st);
-    }
-    put(
-        t,
-        st,
-        lim.room,
-        raised_to(x, (top + 1) as u32),
-        (top + 1) as u16,
-    )
+    let l = lay(t, st.used, st.deep, lim, x);
+    closed(l, st)
 }
 
 // A node that refers to none.
 pub fn shut_leaf(t: &mut [u32], st: State, lim: Limits, kind: u32, p: u32, q: u32) -> Got
     ensures { λ r. ⌜ Shuts (lim .depth) (lim .room) (laid kind 0 (p ∷ q ∷ []) []) st (now (t .entry)) r (now (t .exit)) ⌝ }
 {
-    shut(t, st, lim, made(kind, 0, 0, 0, p, q, 0))
+    let l = lay(t, st.used, st.deep, lim, made(kind, 0, 0, 0, p, q, 0));
+    closed(l, st)
 }
 
 // A node above the one that g found.

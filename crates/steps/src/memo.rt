@@ -19,7 +19,7 @@ pub fn name_of(st: State, i: u32) -> Got
 {
     let m = st.memo;
     let names = m.names;
-    if i < (m.names_len as u32) {
+    if i < m.names_len {
         let k = i as usize;
         if k < 10 {
             return found(names[k], st);
@@ -34,7 +34,7 @@ pub fn type_of(st: State, i: u32) -> Got
 {
     let m = st.memo;
     let types = m.types;
-    if i < (m.types_len as u32) {
+    if i < m.types_len {
         let k = i as usize;
         if k < 10 {
             return found(types[k], st);
@@ -53,7 +53,7 @@ pub fn counted(t: &[u32], used: u16) -> &[u32]
 }
 
 // Does one of the first entries mean the same as the node n?
-fn holds(front: &[u32], s: &[u8], entries: [u16; 10], len: u16, n: u16) -> bool
+fn holds(front: &[u32], s: &[u8], entries: [u16; 10], len: u32, n: u16) -> bool
     requires { ⌜ len ≤ 10 ⌝ }
     ensures { λ r. ⌜ r ≡ anyOf (λ e. eqTree (treeOf (now (front .entry)) (now (s .entry)) (n + 1)) (treeOf (now (front .entry)) (now (s .entry)) (e + 1))) (take len entries) ⌝ }
 {

@@ -101,7 +101,7 @@ pub fn with_memo(st: State, m: Memo) -> State
     }
 }
 
-pub fn larger(a: u16, b: u16) -> u16
+pub fn larger(a: u32, b: u32) -> u32
     ensures { λ r. ⌜ r ≡ max a b ⌝ }
 {
     if a < b { b } else { a }
@@ -121,7 +121,7 @@ pub fn opened(st: State, limit: u16, left: u16) -> State
     State {
         at: st.at,
         used: st.used,
-        deep: larger(st.deep, less(limit, left)),
+        deep: larger(st.deep, less(limit, left) as u32),
         memo: m,
     }
 }

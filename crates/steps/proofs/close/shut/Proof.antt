@@ -1,105 +1,23 @@
 -- `steps::close::shut` meets its contract.
 -- Assumes nothing.
-use Rattle.steps.proofs.Cells.{small-refused, shuts-place, shuts-deep, shuts-node}
 use borrow.Author.Needs.{needs}
 use Rattle.steps.proofs.close.shut.Statement.{statement}
 use Rattle.steps.proofs.close.shut.Tie as tie
 
-counted-requires : tie.Need-counted-requires
-counted-requires c κs = search needs
+lay-requires : tie.Need-lay-requires
+lay-requires c κs = search needs
 
-tallest-requires : tie.Need-tallest-requires
-tallest-requires c κs = search needs
-
-cast-raised-to : tie.Need-cast-raised-to
-cast-raised-to c = search needs
-
-raised-to-requires : tie.Need-raised-to-requires
-raised-to-requires c κs = search needs
-
-put-requires : tie.Need-put-requires
-put-requires c κs = search needs
+closed-requires : tie.Need-closed-requires
+closed-requires c κs = search needs
 
 same-length : tie.Need-same-length
 same-length c = search needs
 
 returns : tie.Need-returns
 returns c =
-    let at-put = c .before .before in
-    let at-raised-to = at-put .before in
-    let at-if1 = at-raised-to .before .before in
-    let at-tallest = at-if1 .before .before in
-    let at-counted = at-tallest .before in
-    (shuts-place (at-counted .counted .ensures) (at-tallest .tallest .ensures .0) (at-if1 .if1 .taken) (at-raised-to .raised-to .ensures) (at-put .put .ensures .0), at-put .put .ensures .1)
-
-cast-if2 : tie.Need-cast-if2
-cast-if2 c = search needs
-
-refused-requires : tie.Need-refused-requires
-refused-requires c κs = search needs
-
-same-length-2 : tie.Need-same-length-2
-same-length-2 c = search needs
-
-returns-2 : tie.Need-returns-2
-returns-2 c =
-    let at-if2 = c .before in
-    let at-if1 = at-if2 .before .before in
-    let at-tallest = at-if1 .before .before in
-    let at-counted = at-tallest .before in
-    (shuts-deep (at-counted .counted .ensures) (at-tallest .tallest .ensures .0) (at-if1 .if1 .left) (at-if2 .if2 .taken) (c .refused .ensures), small-refused (c .refused .ensures))
-
-add-raised-to : tie.Need-add-raised-to
-add-raised-to c = search needs
-
-cast-raised-to-2 : tie.Need-cast-raised-to-2
-cast-raised-to-2 c = search needs
-
-raised-to-requires-2 : tie.Need-raised-to-requires-2
-raised-to-requires-2 c κs = search needs
-
-add-put : tie.Need-add-put
-add-put c = search needs
-
-cast-put : tie.Need-cast-put
-cast-put c = search needs
-
-put-requires-2 : tie.Need-put-requires-2
-put-requires-2 c κs = search needs
-
-same-length-3 : tie.Need-same-length-3
-same-length-3 c = search needs
-
-returns-3 : tie.Need-returns-3
-returns-3 c =
-    let at-put2 = c .before .before in
-    let at-raised-to2 = at-put2 .before in
-    let at-if2 = at-raised-to2 .before .before in
-    let at-if1 = at-if2 .before .before in
-    let at-tallest = at-if1 .before .before in
-    let at-counted = at-tallest .before in
-    (shuts-node (at-counted .counted .ensures) (at-tallest .tallest .ensures .0) (at-if1 .if1 .left) (at-if2 .if2 .left) (at-raised-to2 .raised-to2 .ensures) (at-put2 .put2 .ensures .0), at-put2 .put2 .ensures .1)
+    let at-lay = c .before .before .before in
+    let entry = at-lay .before .before .before in
+    (rw (c .closed .ensures .0) (at-lay .lay .ensures .is (entry .args .st .at) (entry .args .st .memo)), c .closed .ensures .1)
 
 pub shut-spec : {M : Type 1} → statement M
-shut-spec =
-    tie.close
-    (tie.spec
-    counted-requires
-    tallest-requires
-    cast-raised-to
-    raised-to-requires
-    put-requires
-    same-length
-    returns
-    cast-if2
-    refused-requires
-    same-length-2
-    returns-2
-    add-raised-to
-    cast-raised-to-2
-    raised-to-requires-2
-    add-put
-    cast-put
-    put-requires-2
-    same-length-3
-    returns-3)
+shut-spec = tie.close (tie.spec lay-requires closed-requires same-length returns)

@@ -12,9 +12,6 @@ use Rattle.steps.proofs.memo.name_of.Tie as tie
 ten : (c : tie.Start) → length (c .args .st .memo .names) ≡ 10
 ten c = search needs
 
-cast-if1 : tie.Need-cast-if1
-cast-if1 c = search needs
-
 mul-found : tie.Need-mul-found
 mul-found c = search needs
 
@@ -47,7 +44,6 @@ pub name-of-spec : {M : Type 1} → statement M
 name-of-spec =
     tie.close
     (tie.spec
-    cast-if1
     mul-found
     array-read-found
     found-requires
