@@ -2,5 +2,5 @@ pub mod Cut
 pub mod Seq
 pub mod Stores
 pub mod Digits
-pub mod Rows
+pub mod Letters
 pub mod Room

@@ -1,4 +1,5 @@
 pub mod Emit
 pub mod Spaces
 pub mod Words
+pub mod Letters
 pub mod Decimal

@@ -1,7 +1,10 @@
 // The literals of the text, by number.
+ghost use mathlib.Core.Path.{_≡_};
+ghost use Prim.Native.Nat.{_<_};
 ghost use Rattle.text.specs.Emit.{Wrote, lit};
 ghost use Rattle.text.specs.Words.{word};
-use crate::buffer::put_bytes;
+ghost use Rattle.text.specs.Letters.{spell, piece};
+use crate::buffer::put;
 
 // Operators have their own numbers, 0 to 74.
 pub const GUARD: usize = 47;
@@ -94,155 +97,661 @@ pub const LVALUE: usize = 143;
 
 const COUNT: usize = 144;
 
-const WIDTH: usize = 40;
+// The first eight letters of word w as a number, the first letter lowest: a constant of its arm, since a table would be built anew at each call.
+fn first(w: usize) -> u64
+    requires { ⌜ w < 144 ⌝ }
+    ensures { λ r. ⌜ r ≡ piece 0 w ⌝ }
+{
+    match w {
+        // ctor
+        0 => 0x726f7463,
+        // dtor
+        1 => 0x726f7464,
+        // operator
+        2 => 0x726f74617265706f,
+        // operator
+        3 => 0x726f74617265706f,
+        // operator
+        4 => 0x726f74617265706f,
+        // operator
+        5 => 0x726f74617265706f,
+        // operator
+        6 => 0x726f74617265706f,
+        // operator
+        7 => 0x726f74617265706f,
+        // operator
+        8 => 0x726f74617265706f,
+        // operator
+        9 => 0x726f74617265706f,
+        // operator
+        10 => 0x726f74617265706f,
+        // operator
+        11 => 0x726f74617265706f,
+        // operator
+        12 => 0x726f74617265706f,
+        // operator
+        13 => 0x726f74617265706f,
+        // operator
+        14 => 0x726f74617265706f,
+        // operator
+        15 => 0x726f74617265706f,
+        // operator
+        16 => 0x726f74617265706f,
+        // operator
+        17 => 0x726f74617265706f,
+        // operator
+        18 => 0x726f74617265706f,
+        // operator
+        19 => 0x726f74617265706f,
+        // operator
+        20 => 0x726f74617265706f,
+        // operator
+        21 => 0x726f74617265706f,
+        // operator
+        22 => 0x726f74617265706f,
+        // operator
+        23 => 0x726f74617265706f,
+        // operator
+        24 => 0x726f74617265706f,
+        // operator
+        25 => 0x726f74617265706f,
+        // operator
+        26 => 0x726f74617265706f,
+        // operator
+        27 => 0x726f74617265706f,
+        // operator
+        28 => 0x726f74617265706f,
+        // operator
+        29 => 0x726f74617265706f,
+        // operator
+        30 => 0x726f74617265706f,
+        // operator
+        31 => 0x726f74617265706f,
+        // operator
+        32 => 0x726f74617265706f,
+        // operator
+        33 => 0x726f74617265706f,
+        // operator
+        34 => 0x726f74617265706f,
+        // operator
+        35 => 0x726f74617265706f,
+        // operator
+        36 => 0x726f74617265706f,
+        // operator
+        37 => 0x726f74617265706f,
+        // operator
+        38 => 0x726f74617265706f,
+        // operator
+        39 => 0x726f74617265706f,
+        // operator
+        40 => 0x726f74617265706f,
+        // operator
+        41 => 0x726f74617265706f,
+        // operator
+        42 => 0x726f74617265706f,
+        // `vftable
+        43 => 0x656c626174667660,
+        // `vbtable
+        44 => 0x656c626174627660,
+        // `vcall'
+        45 => 0x276c6c61637660,
+        // `typeof'
+        46 => 0x27666f6570797460,
+        // `local s
+        47 => 0x73206c61636f6c60,
+        // `string'
+        48 => 0x27676e6972747360,
+        // `vbase d
+        49 => 0x6420657361627660,
+        // `vector
+        50 => 0x20726f7463657660,
+        // `default
+        51 => 0x746c756166656460,
+        // `scalar
+        52 => 0x2072616c61637360,
+        // `vector
+        53 => 0x20726f7463657660,
+        // `vector
+        54 => 0x20726f7463657660,
+        // `vector
+        55 => 0x20726f7463657660,
+        // `virtual
+        56 => 0x6c61757472697660,
+        // `eh vect
+        57 => 0x7463657620686560,
+        // `eh vect
+        58 => 0x7463657620686560,
+        // `eh vect
+        59 => 0x7463657620686560,
+        // `copy co
+        60 => 0x6f632079706f6360,
+        // `local v
+        61 => 0x76206c61636f6c60,
+        // `local v
+        62 => 0x76206c61636f6c60,
+        // operator
+        63 => 0x726f74617265706f,
+        // operator
+        64 => 0x726f74617265706f,
+        // `placeme
+        65 => 0x656d6563616c7060,
+        // `placeme
+        66 => 0x656d6563616c7060,
+        //  co_awai
+        67 => 0x696177615f6f6320,
+        // operator
+        68 => 0x726f74617265706f,
+        // `RTTI Ba
+        69 => 0x6142204954545260,
+        // `RTTI Cl
+        70 => 0x6c43204954545260,
+        // `RTTI Co
+        71 => 0x6f43204954545260,
+        // `dynamic
+        72 => 0x63696d616e796460,
+        // `dynamic
+        73 => 0x63696d616e796460,
+        // `local s
+        74 => 0x73206c61636f6c60,
+        // void
+        75 => 0x64696f76,
+        // bool
+        76 => 0x6c6f6f62,
+        // char
+        77 => 0x72616863,
+        // signed c
+        78 => 0x632064656e676973,
+        // unsigned
+        79 => 0x64656e6769736e75,
+        // short
+        80 => 0x74726f6873,
+        // unsigned
+        81 => 0x64656e6769736e75,
+        // int
+        82 => 0x746e69,
+        // unsigned
+        83 => 0x64656e6769736e75,
+        // long
+        84 => 0x676e6f6c,
+        // unsigned
+        85 => 0x64656e6769736e75,
+        // int64_t
+        86 => 0x745f3436746e69,
+        // uint64_t
+        87 => 0x745f3436746e6975,
+        // int128_t
+        88 => 0x745f383231746e69,
+        // uint128_
+        89 => 0x5f383231746e6975,
+        // wchar_t
+        90 => 0x745f7261686377,
+        // char8_t
+        91 => 0x745f3872616863,
+        // char16_t
+        92 => 0x745f363172616863,
+        // char32_t
+        93 => 0x745f323372616863,
+        // float
+        94 => 0x74616f6c66,
+        // double
+        95 => 0x656c62756f64,
+        // long dou
+        96 => 0x756f6420676e6f6c,
+        // __int64
+        97 => 0x3436746e695f5f,
+        // unsigned
+        98 => 0x64656e6769736e75,
+        // __int128
+        99 => 0x383231746e695f5f,
+        // unsigned
+        100 => 0x64656e6769736e75,
+        // __cdecl
+        101 => 0x206c636564635f5f,
+        // __pascal
+        102 => 0x6c61637361705f5f,
+        // __thisca
+        103 => 0x6163736968745f5f,
+        // __stdcal
+        104 => 0x6c61636474735f5f,
+        // __fastca
+        105 => 0x6163747361665f5f,
+        // const
+        106 => 0x74736e6f63,
+        // volatile
+        107 => 0x656c6974616c6f76,
+        // __ptr64
+        108 => 0x34367274705f5f,
+        // __restri
+        109 => 0x6972747365725f5f,
+        // &&
+        110 => 0x2626,
+        // struct
+        111 => 0x20746375727473,
+        // union
+        112 => 0x206e6f696e75,
+        // class
+        113 => 0x207373616c63,
+        // enum
+        114 => 0x206d756e65,
+        // private:
+        115 => 0x3a65746176697270,
+        // protecte
+        116 => 0x65746365746f7270,
+        // public:
+        117 => 0x203a63696c627570,
+        // [thunk]:
+        118 => 0x3a5d6b6e7568745b,
+        // private:
+        119 => 0x3a65746176697270,
+        // protecte
+        120 => 0x65746365746f7270,
+        // public:
+        121 => 0x203a63696c627570,
+        // static
+        122 => 0x20636974617473,
+        // virtual
+        123 => 0x206c617574726976,
+        // ::*
+        124 => 0x2a3a3a,
+        // `templat
+        125 => 0x74616c706d657460,
+        // TSS
+        126 => 0x535354,
+        // ...
+        127 => 0x2e2e2e,
+        // std::nul
+        128 => 0x6c756e3a3a647473,
+        // )(
+        129 => 0x2829,
+        // '}}
+        130 => 0x7d7d27,
+        // {for `
+        131 => 0x6020726f667b,
+        // '}
+        132 => 0x7d27,
+        // {flat}}
+        133 => 0x7d7d74616c667b,
+        // ::
+        134 => 0x3a3a,
+        // ??@
+        135 => 0x403f3f,
+        // `anonymo
+        136 => 0x6f6d796e6f6e6160,
+        // [invalid
+        137 => 0x64696c61766e695b,
+        // `vbtable
+        138 => 0x656c626174627660,
+        // operator
+        139 => 0x726f74617265706f,
+        // ::`RTTI
+        140 => 0x2049545452603a3a,
+        // `RTTI Ba
+        141 => 0x6142204954545260,
+        // )'
+        142 => 0x2729,
+        // &
+        143 => 0x26,
+        _ => 0,
+    }
+}
 
-// A word, spaces, and its length in two digits.
-const WORDS: [[u8; WIDTH]; COUNT] = [
-    *b"ctor                                  04",
-    *b"dtor                                  04",
-    *b"operator new                          12",
-    *b"operator delete                       15",
-    *b"operator=                             09",
-    *b"operator>>                            10",
-    *b"operator<<                            10",
-    *b"operator!                             09",
-    *b"operator==                            10",
-    *b"operator!=                            10",
-    *b"operator[]                            10",
-    *b"operatorcast                          12",
-    *b"operator->                            10",
-    *b"operator*                             09",
-    *b"operator++                            10",
-    *b"operator--                            10",
-    *b"operator-                             09",
-    *b"operator+                             09",
-    *b"operator&                             09",
-    *b"operator->*                           11",
-    *b"operator/                             09",
-    *b"operator%                             09",
-    *b"operator<                             09",
-    *b"operator<=                            10",
-    *b"operator>                             09",
-    *b"operator>=                            10",
-    *b"operator,                             09",
-    *b"operator()                            10",
-    *b"operator~                             09",
-    *b"operator^                             09",
-    *b"operator|                             09",
-    *b"operator&&                            10",
-    *b"operator||                            10",
-    *b"operator*=                            10",
-    *b"operator+=                            10",
-    *b"operator-=                            10",
-    *b"operator/=                            10",
-    *b"operator%=                            10",
-    *b"operator>>=                           11",
-    *b"operator<<=                           11",
-    *b"operator&=                            10",
-    *b"operator|=                            10",
-    *b"operator^=                            10",
-    *b"`vftable'                             09",
-    *b"`vbtable'                             09",
-    *b"`vcall'                               07",
-    *b"`typeof'                              08",
-    *b"`local static guard'                  20",
-    *b"`string'                              08",
-    *b"`vbase destructor'                    18",
-    *b"`vector deleting destructor'          28",
-    *b"`default constructor closure'         29",
-    *b"`scalar deleting destructor'          28",
-    *b"`vector constructor iterator'         29",
-    *b"`vector destructor iterator'          28",
-    *b"`vector vbase constructor iterator'   35",
-    *b"`virtual displacement map'            26",
-    *b"`eh vector constructor iterator'      32",
-    *b"`eh vector destructor iterator'       31",
-    *b"`eh vector vbase constructor iterator'38",
-    *b"`copy constructor closure'            26",
-    *b"`local vftable'                       15",
-    *b"`local vftable constructor closure'   35",
-    *b"operator new[]                        14",
-    *b"operator delete[]                     17",
-    *b"`placement delete closure'            26",
-    *b"`placement delete[] closure'          28",
-    *b" co_await                             09",
-    *b"operator \"\"                           11",
-    *b"`RTTI Base Class Array'               23",
-    *b"`RTTI Class Hierarchy Descriptor'     33",
-    *b"`RTTI Complete Object Locator'        30",
-    *b"`dynamic initializer'                 21",
-    *b"`dynamic atexit destructor'           27",
-    *b"`local static thread guard'           27",
-    *b"void                                  04",
-    *b"bool                                  04",
-    *b"char                                  04",
-    *b"signed char                           11",
-    *b"unsigned char                         13",
-    *b"short                                 05",
-    *b"unsigned short                        14",
-    *b"int                                   03",
-    *b"unsigned int                          12",
-    *b"long                                  04",
-    *b"unsigned long                         13",
-    *b"int64_t                               07",
-    *b"uint64_t                              08",
-    *b"int128_t                              08",
-    *b"uint128_t                             09",
-    *b"wchar_t                               07",
-    *b"char8_t                               07",
-    *b"char16_t                              08",
-    *b"char32_t                              08",
-    *b"float                                 05",
-    *b"double                                06",
-    *b"long double                           11",
-    *b"__int64                               07",
-    *b"unsigned __int64                      16",
-    *b"__int128                              08",
-    *b"unsigned __int128                     17",
-    *b"__cdecl                               08",
-    *b"__pascal                              09",
-    *b"__thiscall                            11",
-    *b"__stdcall                             10",
-    *b"__fastcall                            11",
-    *b"const                                 05",
-    *b"volatile                              08",
-    *b"__ptr64                               07",
-    *b"__restrict                            10",
-    *b"&&                                    02",
-    *b"struct                                07",
-    *b"union                                 06",
-    *b"class                                 06",
-    *b"enum                                  05",
-    *b"private: static                       16",
-    *b"protected: static                     18",
-    *b"public: static                        15",
-    *b"[thunk]:                              09",
-    *b"private:                              09",
-    *b"protected:                            11",
-    *b"public:                               08",
-    *b"static                                07",
-    *b"virtual                               08",
-    *b"::*                                   03",
-    *b"`template-parameter                   19",
-    *b"TSS                                   03",
-    *b"...                                   03",
-    *b"std::nullptr_t                        14",
-    *b")(                                    02",
-    *b"'}}                                   03",
-    *b"{for `                                06",
-    *b"'}                                    02",
-    *b"{flat}}                               07",
-    *b"::                                    02",
-    *b"??@                                   03",
-    *b"`anonymous namespace'                 21",
-    *b"[invalid]                             09",
-    *b"`vbtable'{for `                       15",
-    *b"operator                              09",
-    *b"::`RTTI Type Descriptor'              24",
-    *b"`RTTI Base Class Descriptor at (      32",
-    *b")'                                    02",
-    *b"&                                     01",
-];
+// The second eight; 0 where there are none.
+fn second(w: usize) -> u64
+    requires { ⌜ w < 144 ⌝ }
+    ensures { λ r. ⌜ r ≡ piece 1 w ⌝ }
+{
+    match w {
+        //  new
+        2 => 0x77656e20,
+        //  delete
+        3 => 0x6574656c656420,
+        // =
+        4 => 0x3d,
+        // >>
+        5 => 0x3e3e,
+        // <<
+        6 => 0x3c3c,
+        // !
+        7 => 0x21,
+        // ==
+        8 => 0x3d3d,
+        // !=
+        9 => 0x3d21,
+        // []
+        10 => 0x5d5b,
+        // cast
+        11 => 0x74736163,
+        // ->
+        12 => 0x3e2d,
+        // *
+        13 => 0x2a,
+        // ++
+        14 => 0x2b2b,
+        // --
+        15 => 0x2d2d,
+        // -
+        16 => 0x2d,
+        // +
+        17 => 0x2b,
+        // &
+        18 => 0x26,
+        // ->*
+        19 => 0x2a3e2d,
+        // /
+        20 => 0x2f,
+        // %
+        21 => 0x25,
+        // <
+        22 => 0x3c,
+        // <=
+        23 => 0x3d3c,
+        // >
+        24 => 0x3e,
+        // >=
+        25 => 0x3d3e,
+        // ,
+        26 => 0x2c,
+        // ()
+        27 => 0x2928,
+        // ~
+        28 => 0x7e,
+        // ^
+        29 => 0x5e,
+        // |
+        30 => 0x7c,
+        // &&
+        31 => 0x2626,
+        // ||
+        32 => 0x7c7c,
+        // *=
+        33 => 0x3d2a,
+        // +=
+        34 => 0x3d2b,
+        // -=
+        35 => 0x3d2d,
+        // /=
+        36 => 0x3d2f,
+        // %=
+        37 => 0x3d25,
+        // >>=
+        38 => 0x3d3e3e,
+        // <<=
+        39 => 0x3d3c3c,
+        // &=
+        40 => 0x3d26,
+        // |=
+        41 => 0x3d7c,
+        // ^=
+        42 => 0x3d5e,
+        // '
+        43 => 0x27,
+        // '
+        44 => 0x27,
+        // tatic gu
+        47 => 0x7567206369746174,
+        // estructo
+        49 => 0x6f74637572747365,
+        // deleting
+        50 => 0x676e6974656c6564,
+        //  constru
+        51 => 0x757274736e6f6320,
+        // deleting
+        52 => 0x676e6974656c6564,
+        // construc
+        53 => 0x63757274736e6f63,
+        // destruct
+        54 => 0x7463757274736564,
+        // vbase co
+        55 => 0x6f63206573616276,
+        //  displac
+        56 => 0x63616c7073696420,
+        // or const
+        57 => 0x74736e6f6320726f,
+        // or destr
+        58 => 0x727473656420726f,
+        // or vbase
+        59 => 0x657361627620726f,
+        // nstructo
+        60 => 0x6f7463757274736e,
+        // ftable'
+        61 => 0x27656c62617466,
+        // ftable c
+        62 => 0x6320656c62617466,
+        //  new[]
+        63 => 0x5d5b77656e20,
+        //  delete[
+        64 => 0x5b6574656c656420,
+        // nt delet
+        65 => 0x74656c656420746e,
+        // nt delet
+        66 => 0x74656c656420746e,
+        // t
+        67 => 0x74,
+        //  ""
+        68 => 0x222220,
+        // se Class
+        69 => 0x7373616c43206573,
+        // ass Hier
+        70 => 0x7265694820737361,
+        // mplete O
+        71 => 0x4f206574656c706d,
+        //  initial
+        72 => 0x6c616974696e6920,
+        //  atexit
+        73 => 0x2074697865746120,
+        // tatic th
+        74 => 0x6874206369746174,
+        // har
+        78 => 0x726168,
+        //  char
+        79 => 0x7261686320,
+        //  short
+        81 => 0x74726f687320,
+        //  int
+        83 => 0x746e6920,
+        //  long
+        85 => 0x676e6f6c20,
+        // t
+        89 => 0x74,
+        // ble
+        96 => 0x656c62,
+        //  __int64
+        98 => 0x3436746e695f5f20,
+        //  __int12
+        100 => 0x3231746e695f5f20,
+        //
+        102 => 0x20,
+        // ll
+        103 => 0x206c6c,
+        // l
+        104 => 0x206c,
+        // ll
+        105 => 0x206c6c,
+        // ct
+        109 => 0x7463,
+        //  static
+        115 => 0x2063697461747320,
+        // d: stati
+        116 => 0x6974617473203a64,
+        // static
+        117 => 0x20636974617473,
+        //
+        118 => 0x20,
+        //
+        119 => 0x20,
+        // d:
+        120 => 0x203a64,
+        // e-parame
+        125 => 0x656d617261702d65,
+        // lptr_t
+        128 => 0x745f7274706c,
+        // us names
+        136 => 0x73656d616e207375,
+        // ]
+        137 => 0x5d,
+        // '{for `
+        138 => 0x6020726f667b27,
+        //
+        139 => 0x20,
+        // Type Des
+        140 => 0x7365442065707954,
+        // se Class
+        141 => 0x7373616c43206573,
+        _ => 0,
+    }
+}
+
+// The third eight.
+fn third(w: usize) -> u64
+    requires { ⌜ w < 144 ⌝ }
+    ensures { λ r. ⌜ r ≡ piece 2 w ⌝ }
+{
+    match w {
+        // ard'
+        47 => 0x27647261,
+        // r'
+        49 => 0x2772,
+        //  destruc
+        50 => 0x6375727473656420,
+        // ctor clo
+        51 => 0x6f6c6320726f7463,
+        //  destruc
+        52 => 0x6375727473656420,
+        // tor iter
+        53 => 0x7265746920726f74,
+        // or itera
+        54 => 0x617265746920726f,
+        // nstructo
+        55 => 0x6f7463757274736e,
+        // ement ma
+        56 => 0x616d20746e656d65,
+        // ructor i
+        57 => 0x6920726f74637572,
+        // uctor it
+        58 => 0x746920726f746375,
+        //  constru
+        59 => 0x757274736e6f6320,
+        // r closur
+        60 => 0x7275736f6c632072,
+        // onstruct
+        62 => 0x7463757274736e6f,
+        // ]
+        64 => 0x5d,
+        // e closur
+        65 => 0x7275736f6c632065,
+        // e[] clos
+        66 => 0x736f6c63205d5b65,
+        //  Array'
+        69 => 0x27796172724120,
+        // archy De
+        70 => 0x6544207968637261,
+        // bject Lo
+        71 => 0x6f4c207463656a62,
+        // izer'
+        72 => 0x2772657a69,
+        // destruct
+        73 => 0x7463757274736564,
+        // read gua
+        74 => 0x6175672064616572,
+        // 8
+        100 => 0x38,
+        // c
+        116 => 0x2063,
+        // ter
+        125 => 0x726574,
+        // pace'
+        136 => 0x2765636170,
+        // criptor'
+        140 => 0x27726f7470697263,
+        //  Descrip
+        141 => 0x7069726373654420,
+        _ => 0,
+    }
+}
+
+// The fourth eight.
+fn fourth(w: usize) -> u64
+    requires { ⌜ w < 144 ⌝ }
+    ensures { λ r. ⌜ r ≡ piece 3 w ⌝ }
+{
+    match w {
+        // tor'
+        50 => 0x27726f74,
+        // sure'
+        51 => 0x2765727573,
+        // tor'
+        52 => 0x27726f74,
+        // ator'
+        53 => 0x27726f7461,
+        // tor'
+        54 => 0x27726f74,
+        // r iterat
+        55 => 0x7461726574692072,
+        // p'
+        56 => 0x2770,
+        // terator'
+        57 => 0x27726f7461726574,
+        // erator'
+        58 => 0x27726f74617265,
+        // ctor ite
+        59 => 0x65746920726f7463,
+        // e'
+        60 => 0x2765,
+        // or closu
+        62 => 0x75736f6c6320726f,
+        // e'
+        65 => 0x2765,
+        // ure'
+        66 => 0x27657275,
+        // scriptor
+        70 => 0x726f747069726373,
+        // cator'
+        71 => 0x27726f746163,
+        // or'
+        73 => 0x27726f,
+        // rd'
+        74 => 0x276472,
+        // tor at (
+        141 => 0x2820746120726f74,
+        _ => 0,
+    }
+}
+
+// The fifth eight.
+fn fifth(w: usize) -> u64
+    requires { ⌜ w < 144 ⌝ }
+    ensures { λ r. ⌜ r ≡ piece 4 w ⌝ }
+{
+    match w {
+        // or'
+        55 => 0x27726f,
+        // rator'
+        59 => 0x27726f746172,
+        // re'
+        62 => 0x276572,
+        // '
+        70 => 0x27,
+        _ => 0,
+    }
+}
+
+// The letters that c spells, eight at most.
+fn put_letters(text: &mut [u8], o: usize, c: u64) -> usize
+    ensures { λ r. ⌜ Wrote (lit (spell 8 c)) (now (text .entry)) o (now (text .exit)) r ⌝ }
+{
+    let mut at = o;
+    let mut rest = c;
+    let mut left = 8usize;
+    while 0 < left {
+        if rest == 0 {
+            break;
+        }
+        at = put(text, at, (rest % 256) as u8);
+        rest /= 256;
+        left -= 1;
+    }
+    at
+}
 
 // Word w; nothing where there is no such word.
 pub fn put_word(text: &mut [u8], o: usize, w: usize) -> usize
@@ -251,7 +760,17 @@ pub fn put_word(text: &mut [u8], o: usize, w: usize) -> usize
     if COUNT <= w {
         return o;
     }
-    let row = WORDS[w];
-    let n = (row[38] - b'0') * 10 + (row[39] - b'0');
-    put_bytes(text, o, &row[..n as usize])
+    let o1 = put_letters(text, o, first(w));
+    let b = second(w);
+    if b == 0 {
+        return o1;
+    }
+    let o2 = put_letters(text, o1, b);
+    let c = third(w);
+    if c == 0 {
+        return o2;
+    }
+    let o3 = put_letters(text, o2, c);
+    let o4 = put_letters(text, o3, fourth(w));
+    put_letters(text, o4, fifth(w))
 }

@@ -1,10 +1,11 @@
 -- `words::put_word` meets its contract.
 -- Assumes nothing.
-use mathlib.Core.Path.{sym, ap}
-use native.Mathlib.Omega.{arith}
+use mathlib.Core.Path.{sym, ap, _∙_}
+use mathlib.Core.List.{_++_}
 use Rattle.text.specs.Emit.{lit}
+use Rattle.text.specs.Letters.{spell, piece}
 use Rattle.text.proofs.Seq.{wrote-is}
-use Rattle.text.proofs.Rows.{row-is, row-digits, count-fits, count-within, count-is, wrote-no-word}
+use Rattle.text.proofs.Letters.{word-one, word-two, word-all, wrote-both, wrote-no-word}
 use borrow.Author.Needs.{needs}
 use Rattle.text.proofs.words.put_word.Statement.{statement}
 use Rattle.text.proofs.words.put_word.Tie as tie
@@ -12,77 +13,99 @@ use Rattle.text.proofs.words.put_word.Tie as tie
 returns : tie.Need-returns
 returns c = wrote-no-word _ _ _ (c .if1 .taken)
 
-mul-row : tie.Need-mul-row
-mul-row c = search needs
+first-requires : tie.Need-first-requires
+first-requires c κs = search needs
 
-array-copy-out-row : tie.Need-array-copy-out-row
-array-copy-out-row c = search needs
+put-letters-requires : tie.Need-put-letters-requires
+put-letters-requires c κs = search needs
 
-array-read-n : tie.Need-array-read-n
-array-read-n c = search needs
-
-sub-n : tie.Need-sub-n
-sub-n c = (row-digits (c .before .before .before .args .w) (c .before .if1 .left)) .0
-
-mul-n : tie.Need-mul-n
-mul-n c = omega (arith, (row-digits (c .before .before .before .args .w) (c .before .if1 .left)) .1)
-
-array-read-n-2 : tie.Need-array-read-n-2
-array-read-n-2 c = search needs
-
-sub-n-2 : tie.Need-sub-n-2
-sub-n-2 c = (row-digits (c .before .before .before .args .w) (c .before .if1 .left)) .2
-
-add-n : tie.Need-add-n
-add-n c = (count-fits (c .before .before .before .args .w) (c .before .if1 .left)) .0
-
-cast-row : tie.Need-cast-row
-cast-row c =
-    let at-if1 = c .before .before in
-    let entry = at-if1 .before .before in
-    (count-fits (entry .args .w) (at-if1 .if1 .left)) .1
-
-array-share-prefix-row : tie.Need-array-share-prefix-row
-array-share-prefix-row c =
-    let at-if1 = c .before .before in
-    let entry = at-if1 .before .before in
-    count-within (entry .args .w) (at-if1 .if1 .left)
-
-slice-aggregate-put-bytes : tie.Need-slice-aggregate-put-bytes
-slice-aggregate-put-bytes c =
-    let at-if1 = c .before .before .before in
-    let entry = at-if1 .before .before in
-    count-is (entry .args .w) (at-if1 .if1 .left)
-
-put-bytes-requires : tie.Need-put-bytes-requires
-put-bytes-requires c κs = search needs
+second-requires : tie.Need-second-requires
+second-requires c κs = search needs
 
 same-length : tie.Need-same-length
 same-length c = search needs
 
 returns-2 : tie.Need-returns-2
 returns-2 c =
-    let at-put-bytes = c .before .before in
-    let at-if1 = at-put-bytes .before .before .before .before in
+    let at-second = c .before in
+    let at-put-letters = at-second .before .before .before in
+    let at-first = at-put-letters .before in
+    let at-if1 = at-first .before .before in
     let entry = at-if1 .before .before in
-    wrote-is (ap lit (sym (row-is (entry .args .w) (at-if1 .if1 .left)))) (at-put-bytes .put-bytes .ensures)
+    wrote-is (ap lit (word-one (entry .args .w) (at-if1 .if1 .left) (sym (at-second .second .ensures) ∙ c .if2 .taken))) (rw (at-first .first .ensures) at (at-put-letters .put-letters .ensures))
+
+put-letters-requires-2 : tie.Need-put-letters-requires-2
+put-letters-requires-2 c κs = search needs
+
+third-requires : tie.Need-third-requires
+third-requires c κs = search needs
+
+same-length-2 : tie.Need-same-length-2
+same-length-2 c = search needs
+
+returns-3 : tie.Need-returns-3
+returns-3 c =
+    let at-third = c .before in
+    let at-put-letters2 = at-third .before .before .before in
+    let at-second = at-put-letters2 .before .before .before in
+    let at-put-letters = at-second .before .before .before in
+    let at-first = at-put-letters .before in
+    let at-if1 = at-first .before .before in
+    let entry = at-if1 .before .before in
+    wrote-is (ap lit (word-two (entry .args .w) (at-if1 .if1 .left) (sym (at-third .third .ensures) ∙ c .if3 .taken))) (wrote-both (spell 8 (piece 0 (entry .args .w))) (spell 8 (piece 1 (entry .args .w))) (rw (at-first .first .ensures) at (at-put-letters .put-letters .ensures)) (rw (at-second .second .ensures) at (at-put-letters2 .put-letters2 .ensures)))
+
+put-letters-requires-3 : tie.Need-put-letters-requires-3
+put-letters-requires-3 c κs = search needs
+
+fourth-requires : tie.Need-fourth-requires
+fourth-requires c κs = search needs
+
+put-letters-requires-4 : tie.Need-put-letters-requires-4
+put-letters-requires-4 c κs = search needs
+
+fifth-requires : tie.Need-fifth-requires
+fifth-requires c κs = search needs
+
+put-letters-requires-5 : tie.Need-put-letters-requires-5
+put-letters-requires-5 c κs = search needs
+
+same-length-3 : tie.Need-same-length-3
+same-length-3 c = search needs
+
+returns-4 : tie.Need-returns-4
+returns-4 c =
+    let at-put-letters5 = c .before .before in
+    let at-fifth = at-put-letters5 .before in
+    let at-put-letters4 = at-fifth .before .before .before .before in
+    let at-fourth = at-put-letters4 .before in
+    let at-put-letters3 = at-fourth .before .before .before .before in
+    let at-third = at-put-letters3 .before .before .before in
+    let at-put-letters2 = at-third .before .before .before in
+    let at-second = at-put-letters2 .before .before .before in
+    let at-put-letters = at-second .before .before .before in
+    let at-first = at-put-letters .before in
+    let at-if1 = at-first .before .before in
+    let entry = at-if1 .before .before in
+    wrote-is (ap lit (word-all (entry .args .w) (at-if1 .if1 .left))) (wrote-both (spell 8 (piece 0 (entry .args .w))) ((spell 8 (piece 1 (entry .args .w))) ++ ((spell 8 (piece 2 (entry .args .w))) ++ ((spell 8 (piece 3 (entry .args .w))) ++ (spell 8 (piece 4 (entry .args .w)))))) (rw (at-first .first .ensures) at (at-put-letters .put-letters .ensures)) (wrote-both (spell 8 (piece 1 (entry .args .w))) ((spell 8 (piece 2 (entry .args .w))) ++ ((spell 8 (piece 3 (entry .args .w))) ++ (spell 8 (piece 4 (entry .args .w))))) (rw (at-second .second .ensures) at (at-put-letters2 .put-letters2 .ensures)) (wrote-both (spell 8 (piece 2 (entry .args .w))) ((spell 8 (piece 3 (entry .args .w))) ++ (spell 8 (piece 4 (entry .args .w)))) (rw (at-third .third .ensures) at (at-put-letters3 .put-letters3 .ensures)) (wrote-both (spell 8 (piece 3 (entry .args .w))) (spell 8 (piece 4 (entry .args .w))) (rw (at-fourth .fourth .ensures) at (at-put-letters4 .put-letters4 .ensures)) (rw (at-fifth .fifth .ensures) at (at-put-letters5 .put-letters5 .ensures))))))
 
 pub put-word-spec : {M : Type 1} → statement M
 put-word-spec =
     tie.close
     (tie.spec
     returns
-    mul-row
-    array-copy-out-row
-    array-read-n
-    sub-n
-    mul-n
-    array-read-n-2
-    sub-n-2
-    add-n
-    cast-row
-    array-share-prefix-row
-    slice-aggregate-put-bytes
-    put-bytes-requires
+    first-requires
+    put-letters-requires
+    second-requires
     same-length
-    returns-2)
+    returns-2
+    put-letters-requires-2
+    third-requires
+    same-length-2
+    returns-3
+    put-letters-requires-3
+    fourth-requires
+    put-letters-requires-4
+    fifth-requires
+    put-letters-requires-5
+    same-length-3
+    returns-4)
