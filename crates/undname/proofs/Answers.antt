@@ -5,14 +5,14 @@
 --     line-short     it has at most 4,100 bytes
 use Prim.Native.Nat.{ℕ, zero, suc, _+_, _-_, _/_, _%_, _≤_, _<_}
 use mathlib.Core.Bool.{Bool, true, false}
-use mathlib.Core.Path.{_≡_, refl, sym, ap, ap₂, _∙_}
-use mathlib.Core.List.{List, [], _∷_, _++_}
+use mathlib.Core.Path.{_≡_, refl, sym, ap, _∙_}
+use mathlib.Core.List.{List, [], _∷_}
 use native.Mathlib.Omega.{arith}
 use borrow.Author.Tests.{ne-eqb, lt-leb}
-use lib.Dec.{eqb, ltb}
+use lib.Dec.{ltb}
 use lib.ListN.{length, take, drop, length-append, length-take, length-drop, length-replicate}
 use lib.Seq.{take-all}
-use Rattle.scan.specs.Bytes.{pick, bytes}
+use Rattle.scan.specs.Bytes.{pick}
 use Rattle.node.specs.Cells.{nodes}
 use Rattle.text.specs.Decimal.{digits}
 use Rattle.grammar.specs.Counts.{settle}
@@ -23,7 +23,7 @@ use Rattle.farthingmoss.specs.declared.Answer.{Answer}
 use Rattle.farthingmoss.specs.declared.Answer.the-variants.{Answered, NoSymbol, NotAscii, NoDerivation, TooDeep, NoNode, NoRoom, BadCall, BadTable}
 use Rattle.farthingmoss.specs.Call.{knownFlags, symbolGate, gate, demangled, textAfter}
 use Rattle.farthingmoss.proofs.Reading.{own, said, open-answers}
-use Rattle.farthingmoss.proofs.Grammar.{ownText, Accepted, accepted}
+use Rattle.farthingmoss.proofs.Grammar.{ownText, accepted}
 use Rattle.farthingmoss.proofs.Budgets.{more-text}
 use Rattle.undname.specs.Output.{decimal, okLine, noLine, answerLine, table, text, lineOf}
 

@@ -15,7 +15,7 @@ use Rattle.undname.specs.Output.{lineOf, newlineAt, Open, output, Keeps,
 use Rattle.undname.specs.declared.Got.{Got}
 use Rattle.undname.specs.declared.Got.the-variants.{Bytes}
 use Rattle.undname.proofs.Answers.{line-short}
-use Rattle.undname.proofs.Splits.{answers-first, last-line, no-line, open-take}
+use Rattle.undname.proofs.Splits.{answers-first, last-line, no-line, cut-short, open-take}
 
 -- what is written where there is room stands after what waits
 module _ (w : List ℕ) {b b′ : List ℕ} {o o′ : ℕ} (v : Wrote (lit w) b o b′ o′) (h : o + length w ≤ length b) where
@@ -116,6 +116,12 @@ pub kept-begun : (i i′ : List ℕ) (at n r : ℕ) → Keeps i at n i′ r → 
 kept-begun i i′ at n r k q h l o =
     let p : Open (take 4097 (take (n - at) (drop at i))) = open-take 4097 (take (n - at) (drop at i)) (rw (drop-take i at n h l) at o) in
     ap newlineAt (k .bytes) ∙ p ∙ ap length (sym (k .bytes)) ∙ length-take-le r i′ q
+
+-- and what is owed for it is what was owed for the rest
+pub kept-owes : (i i′ : List ℕ) (at n r : ℕ) → Keeps i at n i′ r → at ≤ n → n ≤ length i → Open (drop at (take n i)) → (more : List ℕ) → output (take r i′ ++ more) ≡ output (drop at (take n i) ++ more)
+kept-owes i i′ at n r k h l o more =
+    let e : drop at (take n i) ≡ take (n - at) (drop at i) = drop-take i at n h l in
+    ap (λ x. output (x ++ more)) (k .bytes) ∙ cut-short (take (n - at) (drop at i)) more (rw e at o) ∙ ap (λ x. output (x ++ more)) (sym e)
 
 pub kept-open : (i i′ : List ℕ) (kept : ℕ) → take kept i′ ≡ take kept i → newlineAt (take kept i) ≡ kept → kept ≤ length i → Open (take kept i′)
 kept-open i i′ kept e b h = ap newlineAt e ∙ b ∙ sym (ap length e ∙ length-take-le kept i h)
