@@ -26,6 +26,7 @@ mod refusals;
 mod sources;
 mod tally;
 mod texts;
+mod towers;
 mod traps;
 
 use std::collections::HashSet;

@@ -12,9 +12,9 @@ pub enum Refusal {
 }
 
 pub fn compare(symbol: &str, number: u64, offset: usize) -> Refusal {
-    let (theirs, trap) = match answers::decided(symbol) {
-        Ok((theirs, _, trap)) => (theirs, trap),
-        Err(difference) => return Refusal::Different(difference),
+    let (theirs, trap) = match answers::checked(symbol) {
+        Ok(theirs) => (theirs, None),
+        Err(trap) => (answers::unchecked(symbol).0, Some(trap)),
     };
     match (number, theirs) {
         (SYNTAX, Err(there)) if there == offset => Refusal::Same(trap),

@@ -1,7 +1,7 @@
 //! One symbol, read by the product, by the crate and by the plain model: how they compare.
 use unchecked::ParseResult;
 
-use crate::answers::{self, DEEPER, ESCAPE};
+use crate::answers::{self, Answer, DEEPER, ESCAPE};
 use crate::limits::{ACCEPTED, CELLS, DEEP, DEEPEST, MOST_NODES, SYNTAX};
 use crate::model::Demands;
 use crate::reading::{self, Reading};
@@ -38,6 +38,19 @@ fn difference_from_model(ours: Reading, demands: &Demands) -> Option<String> {
     (!same).then(|| format!("{ours:?}, the model {model:?}"))
 }
 
+/// The answer and the tree without the crate's checks, and the trap of its checks, if there is one.
+type Decision<'a> = (Answer, Option<ParseResult<'a>>, Option<String>);
+
+/// An error where the crate's two builds answer differently.
+fn decided(symbol: &str) -> Result<Decision<'_>, String> {
+    let (answer, tree) = answers::unchecked(symbol);
+    match answers::checked(symbol) {
+        Ok(same) if same == answer => Ok((answer, tree, None)),
+        Ok(other) => Err(format!("the crate {answer:?}, with its checks {other:?}")),
+        Err(trap) => Ok((answer, tree, Some(trap))),
+    }
+}
+
 /// The verdict, and the trap of the crate's checks, if there is one: then the crate without them
 /// decides.
 pub fn compare(symbol: &str, table: &mut [u32]) -> (Verdict, Option<String>) {
@@ -49,7 +62,7 @@ pub fn compare(symbol: &str, table: &mut [u32]) -> (Verdict, Option<String>) {
     if demands.too_heavy() {
         return (Verdict::LeftOut("too heavy for the crate"), None);
     }
-    let (theirs, tree, trap) = match answers::decided(symbol) {
+    let (theirs, tree, trap) = match decided(symbol) {
         Ok(decision) => decision,
         Err(difference) => return (Verdict::Different(difference), None),
     };
