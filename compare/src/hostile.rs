@@ -18,6 +18,8 @@ mod limits;
 mod model;
 #[path = "hostile/symbols.rs"]
 mod symbols;
+#[allow(dead_code)]
+mod tally;
 mod towers;
 #[allow(dead_code)]
 mod writing;
@@ -28,21 +30,22 @@ use std::{env, fs, io, thread};
 
 use limits::{ACCEPTED, CELLS, DEEPEST, MOST_NODES};
 use symbols::Hostile;
-use writing::CUT;
+use tally::Reasons;
+use writing::Report;
 
 const TABLES: [usize; 2] = [1024, MOST_NODES];
 const ROOM: usize = 4096;
 /// No bits; and the one by which more entries of a list write nothing.
 const FLAGS: [u32; 2] = [0, 0x0010_0000];
 /// A call over the limit is made so often: other programs may have slowed it down.
-const TIMES: usize = 3;
+const TIMES: usize = 2;
 const SHOWN: usize = 5;
 
 struct Trial {
     limit: Duration,
     table: Vec<u32>,
     text: Vec<u8>,
-    calls: usize,
+    answers: Reasons,
     /// What took how long.
     times: Vec<(Duration, String)>,
 }
@@ -57,31 +60,30 @@ impl Trial {
                 break;
             }
         }
-        self.calls += 1;
         self.times.push((least, what));
     }
 
     /// A reading; the nodes that it leaves.
     fn read(&mut self, what: &str, symbol: &[u8], flags: u32, nodes: usize) -> usize {
-        let mut left = 0;
+        let mut left = Report::refusal(ACCEPTED, 0);
         self.time(format!("read into {nodes} nodes, {what}"), |table, text| {
             let table = &mut table[..nodes * CELLS];
-            let report = writing::read(symbol, flags, DEEPEST.into(), table, text);
-            left = if [ACCEPTED, CUT].contains(&report.number) { report.nodes } else { 0 };
+            left = writing::read(symbol, flags, DEEPEST.into(), table, text);
         });
-        left
+        self.answers.add(format!("with {}", left.number));
+        left.nodes
     }
 
-    fn ask(&mut self, what: &str, symbol: &[u8], flags: u32, nodes: usize) {
-        let cells = nodes * CELLS;
+    fn write(&mut self, what: &str, symbol: &[u8], flags: u32, nodes: usize) {
         self.time(format!("write {nodes} nodes, {what}"), |table, text| {
-            asking::write(symbol, flags, DEEPEST.into(), &table[..cells], text);
+            asking::write(symbol, flags, DEEPEST.into(), &table[..nodes * CELLS], text);
         });
-        for node in [0, nodes / 2, nodes - 1] {
-            self.time(format!("name in {nodes} nodes, {what}"), |table, _| {
-                asking::name(symbol, &table[..cells], node as u64);
-            });
-        }
+    }
+
+    fn name(&mut self, what: &str, symbol: &[u8], node: usize, nodes: usize) {
+        self.time(format!("name in {nodes} nodes, {what}"), |table, _| {
+            asking::name(symbol, &table[..nodes * CELLS], node as u64);
+        });
     }
 
     fn try_symbol(&mut self, Hostile { what, symbol }: &Hostile) {
@@ -89,7 +91,8 @@ impl Trial {
             for flags in FLAGS {
                 let left = self.read(what, symbol, flags, nodes);
                 if left > 0 {
-                    self.ask(what, symbol, flags, left);
+                    self.write(what, symbol, flags, left);
+                    self.name(what, symbol, if flags == 0 { 0 } else { left - 1 }, left);
                 }
             }
         }
@@ -108,16 +111,20 @@ impl Trial {
         for (time, what) in self.times.iter().take(SHOWN) {
             println!("hostile: {:.1} ms: {what}", time.as_secs_f64() * 1000.0);
         }
+        self.answers.print("hostile: readings");
         let slow = self.times.iter().filter(|(time, _)| *time > self.limit).count();
         let limit = self.limit.as_millis();
-        println!("hostile: {} calls, {slow} of them over {limit} ms of processor time", self.calls);
+        println!(
+            "hostile: {} calls, {slow} of them over {limit} ms of processor time",
+            self.times.len()
+        );
         slow > 0
     }
 }
 
 fn is_too_slow(limit: Duration, symbols: Vec<Hostile>) -> bool {
     let (table, text) = (vec![0; MOST_NODES * CELLS], vec![0; ROOM]);
-    let mut trial = Trial { limit, table, text, calls: 0, times: Vec::new() };
+    let mut trial = Trial { limit, table, text, answers: Reasons::default(), times: Vec::new() };
     symbols.iter().for_each(|hostile| trial.try_symbol(hostile));
     trial.try_prefixes(&symbols::long_symbol());
     trial.print()
