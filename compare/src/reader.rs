@@ -6,6 +6,7 @@
 //! COUNT symbols are made from the grammar, half of them damaged, and as many are the short strings
 //! at each place of a symbol; LISTS is a folder of *.txt, one symbol a line. The crate with its
 //! checks decides; where it traps, the crate without them.
+mod answers;
 mod counts;
 mod damage;
 mod decode;

@@ -1,13 +1,14 @@
-//! Compares the product's text with the crate's, and its counts with the plain model's: each symbol
-//! under several flag words, and a sample of them in every room.
+//! Compares the product with the crate, by one call for each symbol and flag word: the text, the bytes
+//! consumed, the offset of a refusal; and with the plain model, which has the counts, too. A sample
+//! is compared under all flag words, and in every room under one.
 //!
-//! usage: text COUNT TRIAL [LISTS]
+//! usage: text COUNT SHORT TRIAL [LISTS]
 //!
-//! COUNT symbols are made from the grammar, half of them damaged, and as many are the short strings
-//! at each place of a symbol; LISTS is a folder of *.txt, one symbol a line. The crate with its
-//! checks decides; where it traps, the crate without them. Which symbols are read is held to the
-//! plain model. TRIAL is the folder of the writer's trial program: its stored output is held to the
-//! crate, too.
+//! COUNT symbols are made from the grammar, half of them damaged, and SHORT are the short strings at
+//! each place of a symbol; LISTS is a folder of lists. The crate with its checks decides; where it
+//! traps, the crate without them. TRIAL is the folder of the writer's trial program: its stored
+//! output is held to the crate, too.
+mod answers;
 mod damage;
 mod exhaustive;
 mod expected;
@@ -16,6 +17,7 @@ mod generate;
 mod limits;
 mod model;
 mod random;
+mod refusals;
 mod sources;
 mod tally;
 mod texts;
@@ -29,16 +31,22 @@ use std::{env, io};
 
 use expected::Expected;
 use flags::FlagWords;
-use limits::{ACCEPTED, CELLS, MOST_NODES};
+use limits::{ACCEPTED, CELLS, LONGEST, MOST_NODES};
 use model::Demands;
+use refusals::Refusal;
 use tally::{Differences, Reasons};
 use texts::Texts;
 use writing::{Report, OUTSIDE};
 
 /// Room that a text leaves.
 const SPARE: usize = 2;
-/// One symbol in so many is tried in every room if its text is short, and with a node too few.
-const SAMPLED: usize = 20;
+/// Flag words that each symbol is compared under; the next symbol has the next ones.
+const WORDS: usize = 4;
+/// One symbol in so many is tried under all flag words, in every room if its text is short, and with
+/// a node too few.
+const SAMPLED: usize = 400;
+/// A longer text is compared under one flag word.
+const LONG: usize = 2000;
 const LONGEST_SAMPLED: usize = 1000;
 
 /// What became of the symbols of a source.
@@ -47,6 +55,7 @@ struct Tally {
     symbols: usize,
     pairs: usize,
     rooms: usize,
+    refusals: usize,
     refused: Reasons,
     traps: Reasons,
     left_out: Reasons,
@@ -56,13 +65,16 @@ struct Tally {
 impl Tally {
     /// Whether there is a difference.
     fn print(&mut self, source: &str) -> bool {
-        let Tally { symbols, pairs, rooms, .. } = self;
+        let Tally { symbols, pairs, rooms, refusals, .. } = self;
+        println!("text, {source}: {} symbols compared with the crate", *symbols + *refusals);
         println!(
-            "text, {source}: {symbols} symbols, {pairs} pairs with a flag word as in the crate"
+            "text, {source}: {symbols} accepted, {pairs} pairs with a flag word have its text; {refusals} refused at its offset"
         );
-        println!("text, {source}: {rooms} calls with every room of one symbol in {SAMPLED}");
-        self.refused.print(&format!("text, {source}: refused as by the model, no text"));
-        self.traps.print(&format!("text, {source}: pairs on which the crate's checks trap"));
+        println!(
+            "text, {source}: {rooms} calls with every room of one accepted symbol in {SAMPLED}"
+        );
+        self.refused.print(&format!("text, {source}: calls refused as by the model, no text"));
+        self.traps.print(&format!("text, {source}: pairs and refusals on which its checks trap"));
         self.left_out.print(&format!("text, {source}: left out"));
         self.different.print(&format!("text, {source}"))
     }
@@ -102,6 +114,18 @@ impl Comparison {
         }
     }
 
+    /// Whether the crate refuses the symbol there, too.
+    fn compare_offset(&mut self, symbol: &str, reading: Report) {
+        match refusals::compare(symbol, reading.number, reading.offset) {
+            Refusal::Same(trap) => {
+                self.tally.refusals += 1;
+                trap.into_iter().for_each(|trap| self.tally.traps.add(trap));
+            }
+            Refusal::LeftOut(reason) => self.tally.left_out.add(reason),
+            Refusal::Different(difference) => self.tally.different.add(symbol.into(), difference),
+        }
+    }
+
     /// A table that lacks one node.
     fn compare_full(&mut self, symbol: &str, demands: &Demands) {
         let nodes = demands.counts().1 - 1;
@@ -119,14 +143,14 @@ impl Comparison {
         }
     }
 
-    /// One flag word, in every room if that is asked for.
+    /// One flag word, in every room if that is asked for. Whether the text is long.
     fn compare_pair(
         &mut self,
         pair: (&str, u32),
         texts: &Texts,
         reading: Report,
         every_room: bool,
-    ) {
+    ) -> bool {
         let (text, trap) = texts.text(pair.1);
         trap.into_iter().for_each(|trap| self.tally.traps.add(trap));
         let expected = Expected { reading, text: text.as_bytes() };
@@ -136,6 +160,7 @@ impl Comparison {
         if every_room && text.len() <= LONGEST_SAMPLED {
             self.compare_rooms(pair, &expected);
         }
+        text.len() > LONG
     }
 
     fn compare_texts(&mut self, symbol: &str, texts: &Texts, demands: &Demands) {
@@ -146,26 +171,42 @@ impl Comparison {
         let sample = self.tally.symbols / SAMPLED;
         let sampled = self.tally.symbols.is_multiple_of(SAMPLED);
         let words = self.words.next();
-        for (place, flags) in words.iter().enumerate() {
-            let every_room = sampled && place == sample % words.len();
-            self.compare_pair((symbol, *flags), texts, reading, every_room);
+        let (first, count) = match sampled {
+            true => (sample, words.len()),
+            false => (self.tally.symbols * WORDS, WORDS),
+        };
+        let words = words.iter().cycle().skip(first % words.len()).take(count);
+        for (place, flags) in words.enumerate() {
+            let pair = (symbol, *flags);
+            if self.compare_pair(pair, texts, reading, sampled && place == 0) {
+                break;
+            }
         }
         if sampled {
             self.compare_full(symbol, demands);
         }
     }
 
+    /// The crate takes symbols of any length.
+    fn compare_length(&mut self, symbol: &str) {
+        self.compare_refusal(symbol, Report::refusal(OUTSIDE, 0), MOST_NODES);
+        self.tally.left_out.add(if symbol.is_empty() { "empty" } else { "over 4,096 bytes" });
+    }
+
     fn compare(&mut self, symbol: &str) {
-        if symbol.is_empty() {
-            return self.compare_refusal(symbol, Report::refusal(OUTSIDE, 0), MOST_NODES);
+        if !(1..=LONGEST).contains(&symbol.len()) {
+            return self.compare_length(symbol);
         }
         let demands = Demands::of(symbol.as_bytes());
         let reading = expected::reading(symbol.as_bytes(), &demands, MOST_NODES);
         if reading.number != ACCEPTED {
-            return self.compare_refusal(symbol, reading, MOST_NODES);
+            self.compare_refusal(symbol, reading, MOST_NODES);
         }
         if demands.too_heavy() {
             return self.tally.left_out.add("too heavy for the crate");
+        }
+        if reading.number != ACCEPTED {
+            return self.compare_offset(symbol, reading);
         }
         match Texts::of(symbol) {
             Some(texts) => self.compare_texts(symbol, &texts, &demands),
@@ -186,23 +227,37 @@ fn differs(source: &str, symbols: impl Iterator<Item = Vec<u8>>) -> bool {
     comparison.tally.print(source)
 }
 
-fn compare(count: usize, trial: String, lists: Option<String>) -> io::Result<bool> {
+struct Words {
+    count: usize,
+    short: usize,
+    trial: String,
+    lists: Option<String>,
+}
+
+fn words() -> Option<Words> {
+    let mut words = env::args().skip(1);
+    let count = words.next()?.parse().ok()?;
+    let short = words.next()?.parse().ok()?;
+    Some(Words { count, short, trial: words.next()?, lists: words.next() })
+}
+
+fn compare(words: Words) -> io::Result<bool> {
+    let Words { count, short, trial, lists } = words;
     let mut failed = trial::differs(Path::new(&trial))?;
     if let Some(lists) = lists {
         failed |= differs("lists", sources::listed(Path::new(&lists))?.into_iter());
     }
-    failed |= differs("short strings", exhaustive::symbols(count));
+    failed |= differs("short strings", exhaustive::symbols(short));
     failed |= differs("from the grammar", sources::generated(count));
     Ok(failed)
 }
 
 fn main() -> io::Result<ExitCode> {
-    let mut words = env::args().skip(1);
-    let count = words.next().and_then(|count| count.parse().ok());
-    let (Some(count), Some(trial)) = (count, words.next()) else {
-        eprintln!("usage: text COUNT TRIAL [LISTS]");
-        return Ok(ExitCode::from(2));
-    };
-    let lists = words.next();
-    traps::run("text", move || compare(count, trial, lists))
+    match words() {
+        Some(words) => traps::run("text", || compare(words)),
+        None => {
+            eprintln!("usage: text COUNT SHORT TRIAL [LISTS]");
+            Ok(ExitCode::from(2))
+        }
+    }
 }

@@ -1,11 +1,11 @@
 //! One symbol, read by the product, by the crate and by the plain model: how they compare.
 use unchecked::ParseResult;
 
+use crate::answers::{self, Answer, DEEPER, ESCAPE};
 use crate::limits::{ACCEPTED, CELLS, DEEP, DEEPEST, MOST_NODES, SYNTAX};
 use crate::model::Demands;
 use crate::reading::{self, Reading};
 use crate::shape::Shape;
-use crate::traps;
 
 /// How the readings of a symbol compare.
 pub enum Verdict {
@@ -14,42 +14,6 @@ pub enum Verdict {
     /// Not compared with the crate, for this reason.
     LeftOut(&'static str),
     Different(String),
-}
-
-const DEEPER: &str = "deeper than 200";
-const ESCAPE: &str = "refused by the rule for `?$`";
-
-/// Bytes consumed, or the offset of the refusal.
-type Answer = Result<usize, usize>;
-
-/// The crate's answer with its checks, or the name of the trap.
-fn checked(symbol: &str) -> Result<Answer, String> {
-    traps::caught(|| match checked::parse_consumed(symbol) {
-        (Ok(_), consumed) => Ok(consumed),
-        (Err(error), _) => Err(error.offset().expect("parse errors have an offset")),
-    })
-}
-
-/// The crate's answer without its checks, where arithmetic wraps, and its tree.
-fn unchecked(symbol: &str) -> (Answer, Option<ParseResult<'_>>) {
-    match unchecked::parse_consumed(symbol) {
-        (Ok(tree), consumed) => (Ok(consumed), Some(tree)),
-        (Err(error), _) => (Err(error.offset().expect("parse errors have an offset")), None),
-    }
-}
-
-/// Whether the refusal stands just behind a wrong letter of `?$` in a string, which the product
-/// refuses and the crate does not. Nowhere else does the crate take any byte at all.
-fn refuses_escape(symbol: &str, offset: usize) -> bool {
-    let Some(before) = offset.checked_sub(1).map(|before| &symbol[..before]) else {
-        return false;
-    };
-    let wrong = !matches!(symbol.as_bytes()[offset - 1], b'A'..=b'P');
-    let takes = |byte: u8| {
-        let (Ok(end) | Err(end)) = unchecked(&format!("{before}{}", char::from(byte))).0;
-        end == offset
-    };
-    wrong && (0..128).all(takes)
 }
 
 /// Whether the product's table is the crate's tree, and the counts are those of the table.
@@ -74,6 +38,19 @@ fn difference_from_model(ours: Reading, demands: &Demands) -> Option<String> {
     (!same).then(|| format!("{ours:?}, the model {model:?}"))
 }
 
+/// The answer and the tree without the crate's checks, and the trap of its checks, if there is one.
+type Decision<'a> = (Answer, Option<ParseResult<'a>>, Option<String>);
+
+/// An error where the crate's two builds answer differently.
+fn decided(symbol: &str) -> Result<Decision<'_>, String> {
+    let (answer, tree) = answers::unchecked(symbol);
+    match answers::checked(symbol) {
+        Ok(same) if same == answer => Ok((answer, tree, None)),
+        Ok(other) => Err(format!("the crate {answer:?}, with its checks {other:?}")),
+        Err(trap) => Ok((answer, tree, Some(trap))),
+    }
+}
+
 /// The verdict, and the trap of the crate's checks, if there is one: then the crate without them
 /// decides.
 pub fn compare(symbol: &str, table: &mut [u32]) -> (Verdict, Option<String>) {
@@ -85,14 +62,9 @@ pub fn compare(symbol: &str, table: &mut [u32]) -> (Verdict, Option<String>) {
     if demands.too_heavy() {
         return (Verdict::LeftOut("too heavy for the crate"), None);
     }
-    let (theirs, tree) = unchecked(symbol);
-    let trap = match checked(symbol) {
-        Ok(answer) if answer == theirs => None,
-        Ok(answer) => {
-            let difference = format!("the crate {theirs:?}, with its checks {answer:?}");
-            return (Verdict::Different(difference), None);
-        }
-        Err(trap) => Some(trap),
+    let (theirs, tree, trap) = match decided(symbol) {
+        Ok(decision) => decision,
+        Err(difference) => return (Verdict::Different(difference), None),
     };
     let verdict = match (ours.number, theirs, tree) {
         (ACCEPTED, Ok(consumed), Some(tree)) if consumed == ours.offset => {
@@ -103,7 +75,7 @@ pub fn compare(symbol: &str, table: &mut [u32]) -> (Verdict, Option<String>) {
         }
         (SYNTAX, Err(offset), _) if offset == ours.offset => Verdict::Refused,
         (DEEP, Ok(end) | Err(end), _) if ours.offset <= end => Verdict::LeftOut(DEEPER),
-        (SYNTAX, ..) if refuses_escape(symbol, ours.offset) => Verdict::LeftOut(ESCAPE),
+        (SYNTAX, ..) if answers::refuses_escape(symbol, ours.offset) => Verdict::LeftOut(ESCAPE),
         _ => Verdict::Different(format!("{:?}, the crate {theirs:?}", ours.answer())),
     };
     (verdict, trap)

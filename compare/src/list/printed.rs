@@ -1,0 +1,60 @@
+//! What the program `undname` should print for a line, by the crate and the plain model.
+use crate::limits::{ACCEPTED, DEEPEST, LONGEST, SYNTAX};
+use crate::model::Demands;
+use crate::refusals::{self, Refusal};
+use crate::texts::Texts;
+
+/// The program's table and room.
+pub const NODES: usize = 1024;
+const ROOM: usize = 4096;
+
+/// Numbers beside those of a reading: the line is empty or too long; a byte of 128 or more; the text
+/// is cut.
+const OUTSIDE: u64 = 1;
+const HIGH: u64 = 2;
+const CUT: u64 = 6;
+
+pub struct Printed {
+    pub line: String,
+    /// The trap of the crate's checks, or the rule that it does not have.
+    pub note: Option<String>,
+}
+
+fn refused(number: u64, offset: usize, note: Option<String>) -> Printed {
+    Printed { line: format!("no\t{number}\t{offset}"), note }
+}
+
+/// An error where the crate does not decide, or decides otherwise than the model.
+pub fn printed(line: &[u8]) -> Result<Printed, String> {
+    if line.is_empty() || line.len() > LONGEST {
+        return Ok(refused(OUTSIDE, 0, None));
+    }
+    if let Some(high) = line.iter().position(|byte| *byte >= 128) {
+        return Ok(refused(HIGH, high, None));
+    }
+    let symbol = std::str::from_utf8(line).map_err(|error| error.to_string())?;
+    let demands = Demands::of(line);
+    let (number, offset, _) = demands.within(DEEPEST.into(), NODES);
+    match number {
+        ACCEPTED | SYNTAX if demands.too_heavy() => Err("too heavy for the crate".to_string()),
+        ACCEPTED => accepted(symbol, offset),
+        SYNTAX => match refusals::compare(symbol, number, offset) {
+            Refusal::Different(difference) => Err(difference),
+            Refusal::Same(trap) => Ok(refused(number, offset, trap)),
+            Refusal::LeftOut(rule) => Ok(refused(number, offset, Some(rule.to_string()))),
+        },
+        _ => Ok(refused(number, offset, None)),
+    }
+}
+
+fn accepted(symbol: &str, offset: usize) -> Result<Printed, String> {
+    let texts = Texts::of(symbol).ok_or("refused by the crate")?;
+    if texts.consumed != offset {
+        return Err(format!("{} bytes consumed by the crate, not {offset}", texts.consumed));
+    }
+    let (text, note) = texts.text(0);
+    match text.len() > ROOM {
+        true => Ok(refused(CUT, offset, note)),
+        false => Ok(Printed { line: format!("ok\t{text}"), note }),
+    }
+}
