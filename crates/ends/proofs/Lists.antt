@@ -13,11 +13,11 @@ use Rattle.grammar.specs.Program.{ret, fail, look, when, sub}
 use Rattle.grammar.specs.Words.{_>>=_, _⇒_∥_, _↝_∥_, digit, atEnd}
 use Rattle.node.specs.Kind.{NamePlace}
 use Rattle.grammar.specs.Grammar.{Reading, place, nestedName, scopeFrom, scope, listEnd, storedParam, newParam, paramsFrom, params}
-use Rattle.grammar.specs.declared.State.{State}
 use Rattle.grammar.specs.declared.Refusal.the-variants.{Syntax}
-use Rattle.steps.specs.Does.{refusedAt, foundAt, plain, Does, Meets}
+use Rattle.steps.specs.Does.{Lent, refusedAt, foundAt, plain, Does, Meets}
 use Rattle.steps.proofs.Laws.{does-ret, does-fail, does-look, does-when, does-else, on-met, on-unmet}
 use Rattle.steps.proofs.More.{does-as, does-assoc}
+use Rattle.steps.specs.declared.state.Spot.{Spot}
 use Rattle.steps.specs.declared.state.Got.{Got}
 use Rattle.steps.specs.declared.state.Value.the-variants.{Is, Bad}
 use Rattle.steps.specs.declared.state.Took.{Took}
@@ -47,30 +47,30 @@ none-of false true c e = true-false e
 none-of false false c e = (refl, refl, e)
 
 module _ {s : List ℕ} {limit room d : ℕ} where
-  pub scope-starts : {f : ℕ} {st : State} {t t′ : List ℕ} {g : Got} → f ≡ length s - st .at + 1 → Does s limit room d (scopeFrom f 0) st t plain g t′ → Does s limit room d scope st t plain g t′
+  pub scope-starts : {f : ℕ} {st : Spot} {t t′ : Lent} {g : Got} → f ≡ length s - st .at + 1 → Does s limit room d (scopeFrom f 0) st t plain g t′ → Does s limit room d scope st t plain g t′
   unfolding scope
   scope-starts e r = does-look (does-as (ap (λ (f : ℕ). scopeFrom f 0) (sym e)) r)
 
   pub scope-ends :
-      (f last : ℕ) {x : ℕ} {st : State} {r : Took} {t : List ℕ} {g : Got} → 0 < f → Meets (bytes "@") s st r → r .value ≡ Is x → g ≡ foundAt last 0 (r .state) → Does s limit room d (scopeFrom f last) st t plain g t
+      (f last : ℕ) {x : ℕ} {st : Spot} {r : Took} {t : Lent} {g : Got} → 0 < f → Meets (bytes "@") s st r → r .value ≡ Is x → g ≡ foundAt last 0 (r .state) → Does s limit room d (scopeFrom f last) st t plain g t
   scope-ends f last h m e q = does-as (scope-some f last h) (on-met "@" m e (does-ret q))
 
   pub scope-goes :
-      (f last : ℕ) {st : State} {r : Took} {t t′ : List ℕ} {g : Got} → 0 < f → Meets (bytes "@") s st r → r .value ≡ Bad →
+      (f last : ℕ) {st : Spot} {r : Took} {t t′ : Lent} {g : Got} → 0 < f → Meets (bytes "@") s st r → r .value ≡ Bad →
       Does s limit room d (sub (scopeName last) (λ next. scopeFrom (f - 1) next)) st t plain g t′ → Does s limit room d (scopeFrom f last) st t plain g t′
   scope-goes f last h m e q = does-as (scope-some f last h) (on-unmet "@" m e (does-assoc q))
 
-  pub scope-out : (f last : ℕ) {st : State} {t : List ℕ} {g : Got} → f ≤ 0 → g ≡ refusedAt Syntax st → Does s limit room d (scopeFrom f last) st t plain g t
+  pub scope-out : (f last : ℕ) {st : Spot} {t : Lent} {g : Got} → f ≤ 0 → g ≡ refusedAt Syntax st → Does s limit room d (scopeFrom f last) st t plain g t
   unfolding scopeFrom
   scope-out f last h e = let z : f ≡ 0 = omega arith in does-as (ap (λ (f : ℕ). scopeFrom f last) z) (does-fail e)
 
-  pub params-starts : {f : ℕ} {st : State} {t t′ : List ℕ} {g : Got} → f ≡ length s - st .at + 1 → Does s limit room d (paramsFrom f 0) st t plain g t′ → Does s limit room d params st t plain g t′
+  pub params-starts : {f : ℕ} {st : Spot} {t t′ : Lent} {g : Got} → f ≡ length s - st .at + 1 → Does s limit room d (paramsFrom f 0) st t plain g t′ → Does s limit room d params st t plain g t′
   unfolding params
   params-starts e r = does-look (does-as (ap (λ (f : ℕ). paramsFrom f 0) (sym e)) r)
 
   -- where it stops, and where it goes on
   pub params-ends :
-      (f last : ℕ) {b : Bool} {st : State} {t t′ : List ℕ} {g : Got} → 0 < f → b ≡ listStops s (st .at) → b ≡ true →
+      (f last : ℕ) {b : Bool} {st : Spot} {t t′ : Lent} {g : Got} → 0 < f → b ≡ listStops s (st .at) → b ≡ true →
       Does s limit room d (listEnd last) st t plain g t′ → Does s limit room d (paramsFrom f last) st t plain g t′
   params-ends f last {st = st} h e q r =
       does-as (params-some f last h)
@@ -79,12 +79,12 @@ module _ {s : List ℕ} {limit room d : ℕ} where
       (one-of (starts (bytes "@") (drop (st .at) s)) (starts (bytes "Z") (drop (st .at) s)) (leb (length s) (st .at)) (sym e ∙ q)))
 
   pub params-goes :
-      (f last : ℕ) {b : Bool} {st : State} {t t′ : List ℕ} {g : Got} → 0 < f → b ≡ listStops s (st .at) → b ≡ false →
+      (f last : ℕ) {b : Bool} {st : Spot} {t t′ : Lent} {g : Got} → 0 < f → b ≡ listStops s (st .at) → b ≡ false →
       Does s limit room d (sub (digit (storedParam last) (newParam last)) (λ next. paramsFrom (f - 1) next)) st t plain g t′ → Does s limit room d (paramsFrom f last) st t plain g t′
   params-goes f last {st = st} h e q r =
       let n = none-of (starts (bytes "@") (drop (st .at) s)) (starts (bytes "Z") (drop (st .at) s)) (leb (length s) (st .at)) (sym e ∙ q) in
       does-as (params-some f last h) (does-look (does-else (n .0) (does-look (does-else (n .1) (does-look (does-else (n .2) r))))))
 
-  pub params-out : (f last : ℕ) {st : State} {t : List ℕ} {g : Got} → f ≤ 0 → g ≡ refusedAt Syntax st → Does s limit room d (paramsFrom f last) st t plain g t
+  pub params-out : (f last : ℕ) {st : Spot} {t : Lent} {g : Got} → f ≤ 0 → g ≡ refusedAt Syntax st → Does s limit room d (paramsFrom f last) st t plain g t
   unfolding paramsFrom
   params-out f last h e = let z : f ≡ 0 = omega arith in does-as (ap (λ (f : ℕ). paramsFrom f last) z) (does-fail e)

@@ -14,16 +14,17 @@ use Rattle.grammar.specs.Grammar.{Reading, close, place, to, nestedName}
 use Rattle.grammar.specs.declared.Memo.{Memo}
 use Rattle.grammar.specs.declared.State.{State}
 use Rattle.grammar.specs.declared.Refusal.the-variants.{Deep}
-use Rattle.steps.specs.Does.{View, goes, does}
+use Rattle.steps.specs.Does.{Lent, full, View, goes, runs, does}
+use Rattle.steps.specs.declared.state.Spot.{Spot}
 use Rattle.steps.specs.declared.state.Got.{Got}
 
 -- a part that reads p
 unfoldable pub opensTo : {A : Type 0} → List ℕ → ℕ → ℕ → ℕ → Reading A → State → List ℕ → Out A (List ℕ)
 opensTo s limit room zero p st t = out (refused Deep) st t
-opensTo s limit room (suc d) p st t = does s limit room d p (opened (limit - d) st) t
+opensTo s limit room (suc d) p st t = runs s limit room d p (opened (limit - d) st) t
 
-pub record Opens {A : Type 0} (s : List ℕ) (limit room d : ℕ) (p : Reading A) (st : State) (t : List ℕ) (v : View A) (g : Got) (t′ : List ℕ) : Type 0 where
-  pub is : goes v g t′ ≡ opensTo s limit room d p st t
+pub record Opens {A : Type 0} (s : List ℕ) (limit room d : ℕ) (p : Reading A) (st : Spot) (t : Lent) (v : View A) (g : Got) (t′ : Lent) : Type 0 where
+  pub is : goes v g t′ ≡ opensTo s limit room d p (full st t) (t .table)
 
 -- these bytes, and a node
 abbrev pub expectBytes : List ℕ → Reading (Unit {0})
@@ -46,8 +47,8 @@ ended l = do
 abbrev pub keptType : ℕ → ℕ → ℕ → Reading (Unit {0})
 keptType from end t = when (ltb 1 (end - from)) (memorizeType t) (ret tt)
 
-pub record Kept (s : List ℕ) (from n : ℕ) (st : State) (t : List ℕ) (st′ : State) : Type 0 where
-  pub is : (limit room d : ℕ) → out (found tt) st′ t ≡ does s limit room d (keptType from (st .at) n) st t
+pub record Kept (s : List ℕ) (from n : ℕ) (st : Spot) (t : Lent) (st′ : Spot) (t′ : Lent) : Type 0 where
+  pub is : (limit room d : ℕ) → out (found tt) (full st′ t′) (t′ .table) ≡ does s limit room d (keptType from (st .at) n) st t
 
 abbrev pub paramEnd : ℕ → ℕ → ℕ → Reading ℕ
 paramEnd from last t = do

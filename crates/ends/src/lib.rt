@@ -7,11 +7,10 @@ ghost use lib.Dec.{eqb};
 ghost use Rattle.grammar.specs.Table.{laid};
 ghost use Rattle.grammar.specs.Grammar.{to, NoType, MdFive, OuterMd5, parseOf, listEnd, isGuard};
 ghost use Rattle.forms.specs.declared.begins.ParseForm.the-variants.{Md5};
-ghost use Rattle.steps.specs.Does.{plain, guarded, sized, Does, Reads, Follows, Shuts, Tops};
+ghost use Rattle.steps.specs.Does.{plain, guarded, sized, Lent, lent, Does, Reads, Follows, Shuts, Tops};
 ghost use Rattle.ends.specs.Ends.{Opens, keptName, leafName, storedUnless, literalOf, listStops, ended, Kept, paramEnd, templateEnd, arrayEnd};
 use grammar::Memo;
 use grammar::Refusal;
-use grammar::State;
 use node::Node;
 use steps::close::above;
 use steps::close::beside;
@@ -23,29 +22,30 @@ use steps::leaves::expect;
 use steps::leaves::md5;
 use steps::memo::memorize_name;
 use steps::memo::memorize_type;
+use steps::memo::put_back;
 use steps::state::Answer;
 use steps::state::Got;
 use steps::state::Limits;
+use steps::state::Spot;
 use steps::state::Value;
 use steps::state::found;
 use steps::state::opened;
 use steps::state::refused;
-use steps::state::with_memo;
 
 // The name that g found, stored.
-pub fn memorized(s: &[u8], t: &[u32], g: Got) -> Got
-    ensures { λ r. ⌜ ((limit room d : ℕ) → Follows (now (s .entry)) limit room d plain g (now (t .entry)) keptName plain r (now (t .entry))) ⌝ }
+pub fn memorized(s: &[u8], t: &[u32], names: &mut [u16; 10], g: Got) -> Got
+    ensures { λ r. ⌜ ((types : List ℕ) (limit room d : ℕ) → Follows (now (s .entry)) limit room d plain g (lent (now (t .entry)) (now (names .entry)) types) keptName plain r (lent (now (t .entry)) (now (names .exit)) types)) ⌝ }
 {
     let a = g.answer;
     match a {
-        Answer::Node(n) => found(n, memorize_name(t, s, g.state, n)),
+        Answer::Node(n) => found(n, memorize_name(t, s, names, g.state, n)),
         Answer::Refused(_) => g,
     }
 }
 
 // The name of a template, which is stored but for a function's own, and is no guard's.
-pub fn stored_unless(s: &[u8], t: &[u32], g: Got, function: bool) -> Got
-    ensures { λ r. ⌜ ((limit room d : ℕ) → Follows (now (s .entry)) limit room d plain g (now (t .entry)) (storedUnless function) guarded r (now (t .entry))) ⌝ }
+pub fn stored_unless(s: &[u8], t: &[u32], names: &mut [u16; 10], g: Got, function: bool) -> Got
+    ensures { λ r. ⌜ ((types : List ℕ) (limit room d : ℕ) → Follows (now (s .entry)) limit room d plain g (lent (now (t .entry)) (now (names .entry)) types) (storedUnless function) guarded r (lent (now (t .entry)) (now (names .exit)) types)) ⌝ }
 {
     let a = g.answer;
     match a {
@@ -53,7 +53,7 @@ pub fn stored_unless(s: &[u8], t: &[u32], g: Got, function: bool) -> Got
             if function {
                 return found(n, g.state);
             }
-            found(n, memorize_name(t, s, g.state, n))
+            found(n, memorize_name(t, s, names, g.state, n))
         }
         Answer::Refused(_) => g,
     }
@@ -63,18 +63,19 @@ pub fn stored_unless(s: &[u8], t: &[u32], g: Got, function: bool) -> Got
 pub fn leaf_name(
     s: &[u8],
     t: &mut [u32],
-    st: State,
+    names: &mut [u16; 10],
+    st: Spot,
     lim: Limits,
     kind: u32,
     p: u32,
     q: u32,
     stored: bool,
 ) -> Got
-    ensures { λ r. ⌜ ((d : ℕ) → Does (now (s .entry)) (lim .depth) (lim .room) d (leafName kind p q stored) st (now (t .entry)) plain r (now (t .exit))) ⌝ }
+    ensures { λ r. ⌜ ((types : List ℕ) (d : ℕ) → Does (now (s .entry)) (lim .depth) (lim .room) d (leafName kind p q stored) st (lent (now (t .entry)) (now (names .entry)) types) plain r (lent (now (t .exit)) (now (names .exit)) types)) ⌝ }
 {
     let g = shut_leaf(t, st, lim, kind, p, q);
     if stored {
-        return memorized(s, t, g);
+        return memorized(s, t, names, g);
     }
     g
 }
@@ -97,14 +98,14 @@ pub fn literal_part(
     literal: &[u8],
     s: &[u8],
     t: &mut [u32],
-    st: State,
+    st: Spot,
     lim: Limits,
     depth: u16,
     kind: u32,
     p: u32,
 ) -> Got
     requires { ⌜ length (now s) ≤ 4096 ⌝ }
-    ensures { λ r. ⌜ ((numbers : List ℕ) → laid kind 0 numbers [] ≡ laid kind 0 (p ∷ []) [] → Opens (now (s .entry)) (lim .depth) (lim .room) depth (literalOf (now (literal .entry)) kind numbers) st (now (t .entry)) plain r (now (t .exit))) ⌝ }
+    ensures { λ r. ⌜ ((numbers names types : List ℕ) → laid kind 0 numbers [] ≡ laid kind 0 (p ∷ []) [] → Opens (now (s .entry)) (lim .depth) (lim .room) depth (literalOf (now (literal .entry)) kind numbers) st (lent (now (t .entry)) names types) plain r (lent (now (t .exit)) names types)) ⌝ }
 {
     if depth == 0 {
         return refused(Refusal::Deep, st);
@@ -118,8 +119,8 @@ pub fn literal_part(
 }
 
 // The type of a symbol that has none.
-pub fn no_type(t: &mut [u32], st: State, lim: Limits, depth: u16) -> Got
-    ensures { λ r. ⌜ ((s : List ℕ) → Reads s (lim .depth) (lim .room) depth NoType st (now (t .entry)) plain r (now (t .exit))) ⌝ }
+pub fn no_type(t: &mut [u32], st: Spot, lim: Limits, depth: u16) -> Got
+    ensures { λ r. ⌜ ((s names types : List ℕ) → Reads s (lim .depth) (lim .room) depth NoType st (lent (now (t .entry)) names types) plain r (lent (now (t .exit)) names types)) ⌝ }
 {
     if depth == 0 {
         return refused(Refusal::Deep, st);
@@ -133,9 +134,9 @@ fn less_one(n: u32) -> u32
     if 0 < n { n - 1 } else { 0 }
 }
 
-fn md5_name(s: &[u8], t: &mut [u32], st: State, lim: Limits, depth: u16) -> Got
+fn md5_name(s: &[u8], t: &mut [u32], st: Spot, lim: Limits, depth: u16) -> Got
     requires { ⌜ length (now s) ≤ 4096 ⌝ }
-    ensures { λ r. ⌜ Reads (now (s .entry)) (lim .depth) (lim .room) depth MdFive st (now (t .entry)) plain r (now (t .exit)) ⌝ }
+    ensures { λ r. ⌜ ((names types : List ℕ) → Reads (now (s .entry)) (lim .depth) (lim .room) depth MdFive st (lent (now (t .entry)) names types) plain r (lent (now (t .exit)) names types)) ⌝ }
 {
     if depth == 0 {
         return refused(Refusal::Deep, st);
@@ -148,9 +149,9 @@ fn md5_name(s: &[u8], t: &mut [u32], st: State, lim: Limits, depth: u16) -> Got
     }
 }
 
-fn md5_symbol(s: &[u8], t: &mut [u32], st: State, lim: Limits, depth: u16) -> Got
+fn md5_symbol(s: &[u8], t: &mut [u32], st: Spot, lim: Limits, depth: u16) -> Got
     requires { ⌜ length (now s) ≤ 4096 ⌝ }
-    ensures { λ r. ⌜ Reads (now (s .entry)) (lim .depth) (lim .room) depth OuterMd5 st (now (t .entry)) plain r (now (t .exit)) ⌝ }
+    ensures { λ r. ⌜ ((names types : List ℕ) → Reads (now (s .entry)) (lim .depth) (lim .room) depth OuterMd5 st (lent (now (t .entry)) names types) plain r (lent (now (t .exit)) names types)) ⌝ }
 {
     if depth == 0 {
         return refused(Refusal::Deep, st);
@@ -176,9 +177,9 @@ pub fn parsed(t: &mut [u32], g: Got, lim: Limits, symbol: u16, index: u32) -> Go
 }
 
 // parse behind `??@`.
-pub fn parse_md5(s: &[u8], t: &mut [u32], st: State, lim: Limits, depth: u16) -> Got
+pub fn parse_md5(s: &[u8], t: &mut [u32], st: Spot, lim: Limits, depth: u16) -> Got
     requires { ⌜ length (now s) ≤ 4096 ⌝ }
-    ensures { λ r. ⌜ Does (now (s .entry)) (lim .depth) (lim .room) depth (parseOf Md5) st (now (t .entry)) plain r (now (t .exit)) ⌝ }
+    ensures { λ r. ⌜ ((names types : List ℕ) → Does (now (s .entry)) (lim .depth) (lim .room) depth (parseOf Md5) st (lent (now (t .entry)) names types) plain r (lent (now (t .exit)) names types)) ⌝ }
 {
     let g = md5_symbol(s, t, st, lim, depth);
     let a = g.answer;
@@ -192,7 +193,7 @@ pub fn parse_md5(s: &[u8], t: &mut [u32], st: State, lim: Limits, depth: u16) ->
 }
 
 // Whether a list of types ends here.
-pub fn list_stops(s: &[u8], st: State) -> bool
+pub fn list_stops(s: &[u8], st: Spot) -> bool
     ensures { λ r. ⌜ r ≡ listStops (now (s .entry)) (st .at) ⌝ }
 {
     let at = st.at as usize;
@@ -206,9 +207,9 @@ pub fn list_stops(s: &[u8], st: State) -> bool
 }
 
 // The end of a list of types.
-pub fn list_end(s: &[u8], t: &mut [u32], st: State, lim: Limits, depth: u16, last: u16) -> Got
+pub fn list_end(s: &[u8], t: &mut [u32], st: Spot, lim: Limits, depth: u16, last: u16) -> Got
     requires { ⌜ length (now s) ≤ 4096 ⌝ }
-    ensures { λ r. ⌜ Does (now (s .entry)) (lim .depth) (lim .room) depth (listEnd last) st (now (t .entry)) plain r (now (t .exit)) ⌝ }
+    ensures { λ r. ⌜ ((names types : List ℕ) → Does (now (s .entry)) (lim .depth) (lim .room) depth (listEnd last) st (lent (now (t .entry)) names types) plain r (lent (now (t .exit)) names types)) ⌝ }
 {
     if scan::cursor::consume(b"Z", s, st.at as usize) {
         let g = literal_part(b"Z", s, t, st, lim, depth, 60, 0);
@@ -228,7 +229,7 @@ pub fn list_end(s: &[u8], t: &mut [u32], st: State, lim: Limits, depth: u16, las
 // The `Z` behind a list.
 pub fn ended(s: &[u8], g: Got) -> Got
     requires { ⌜ length (now s) ≤ 4096 ⌝ }
-    ensures { λ r. ⌜ ((limit room d : ℕ) (t : List ℕ) → Follows (now (s .entry)) limit room d plain g t ended plain r t) ⌝ }
+    ensures { λ r. ⌜ ((limit room d : ℕ) (t : Lent) → Follows (now (s .entry)) limit room d plain g t ended plain r t) ⌝ }
 {
     let a = g.answer;
     match a {
@@ -245,35 +246,57 @@ pub fn ended(s: &[u8], g: Got) -> Got
 }
 
 // The state with the type n stored, if that took more than one byte from a place on.
-fn kept(s: &[u8], t: &[u32], st: State, n: u16, from: u16) -> State
-    ensures { λ r. ⌜ Kept (now (s .entry)) from n st (now (t .entry)) r ⌝ }
+fn kept(s: &[u8], t: &[u32], types: &mut [u16; 10], st: Spot, n: u16, from: u16) -> Spot
+    ensures { λ r. ⌜ ((names : List ℕ) → Kept (now (s .entry)) from n st (lent (now (t .entry)) names (now (types .entry))) r (lent (now (t .entry)) names (now (types .exit)))) ⌝ }
 {
     if (from as usize) + 1 < (st.at as usize) {
-        return memorize_type(t, s, st, n);
+        return memorize_type(t, s, types, st, n);
     }
     st
 }
 
 // The place of a parameter that was read from a place of the symbol on.
-pub fn param_end(s: &[u8], t: &mut [u32], g: Got, lim: Limits, from: u16, last: u16) -> Got
-    ensures { λ r. ⌜ ((d : ℕ) → Follows (now (s .entry)) (lim .depth) (lim .room) d plain g (now (t .entry)) (paramEnd from last) plain r (now (t .exit))) ⌝ }
+pub fn param_end(
+    s: &[u8],
+    t: &mut [u32],
+    types: &mut [u16; 10],
+    g: Got,
+    lim: Limits,
+    from: u16,
+    last: u16,
+) -> Got
+    ensures { λ r. ⌜ ((names : List ℕ) (d : ℕ) → Follows (now (s .entry)) (lim .depth) (lim .room) d plain g (lent (now (t .entry)) names (now (types .entry))) (paramEnd from last) plain r (lent (now (t .exit)) names (now (types .exit)))) ⌝ }
 {
     let a = g.answer;
     match a {
-        Answer::Node(n) => placed(t, found(n, kept(s, t, g.state, n, from)), lim, 2, last),
+        Answer::Node(n) => placed(
+            t,
+            found(n, kept(s, t, types, g.state, n, from)),
+            lim,
+            2,
+            last,
+        ),
         Answer::Refused(_) => g,
     }
 }
 
 // A template over the list that g found: the outer memo comes back.
-pub fn template_end(t: &mut [u32], g: Got, lim: Limits, name: u16, outer: Memo) -> Got
-    ensures { λ r. ⌜ ((s : List ℕ) (d : ℕ) → Follows s (lim .depth) (lim .room) d plain g (now (t .entry)) (templateEnd outer name) plain r (now (t .exit))) ⌝ }
+pub fn template_end(
+    t: &mut [u32],
+    names: &mut [u16; 10],
+    types: &mut [u16; 10],
+    g: Got,
+    lim: Limits,
+    name: u16,
+    outer: Memo,
+) -> Got
+    ensures { λ r. ⌜ ((s : List ℕ) (d : ℕ) → Follows s (lim .depth) (lim .room) d plain g (lent (now (t .entry)) (now (names .entry)) (now (types .entry))) (templateEnd outer name) plain r (lent (now (t .exit)) (now (names .exit)) (now (types .exit)))) ⌝ }
 {
     let a = g.answer;
     match a {
         Answer::Node(l) => shut(
             t,
-            with_memo(g.state, outer),
+            put_back(names, types, outer, g.state),
             lim,
             made(12, (name as u32) + 1, l as u32, 0, 0, 0, 0),
         ),
@@ -283,7 +306,7 @@ pub fn template_end(t: &mut [u32], g: Got, lim: Limits, name: u16, outer: Memo) 
 
 // An array of a length over what g found, with the class of its element.
 pub fn array_end(t: &mut [u32], g: Got, lim: Limits, len: u32) -> Got
-    ensures { λ r. ⌜ ((s : List ℕ) (d : ℕ) → Follows s (lim .depth) (lim .room) d sized g (now (t .entry)) (arrayEnd len) sized r (now (t .exit))) ⌝ }
+    ensures { λ r. ⌜ ((s names types : List ℕ) (d : ℕ) → Follows s (lim .depth) (lim .room) d sized g (lent (now (t .entry)) names types) (arrayEnd len) sized r (lent (now (t .exit)) names types)) ⌝ }
 {
     let class = g.extra;
     beside(above(t, g, lim, 31, class, len), class)
@@ -301,7 +324,7 @@ pub fn table_end(t: &mut [u32], g: Got, lim: Limits, kind: u32, class: u32) -> G
 }
 
 // The descriptor of a base class.
-pub fn shut_base(t: &mut [u32], st: State, lim: Limits, p: u32, q: u32, r: u32, flags: u32) -> Got
+pub fn shut_base(t: &mut [u32], st: Spot, lim: Limits, p: u32, q: u32, r: u32, flags: u32) -> Got
     ensures { λ g. ⌜ Shuts (lim .depth) (lim .room) (laid 9 0 (p ∷ q ∷ r ∷ flags ∷ []) []) st (now (t .entry)) g (now (t .exit)) ⌝ }
 {
     let x = Node {

@@ -16,7 +16,8 @@ use Rattle.grammar.specs.Grammar.{Parse, body}
 use Rattle.grammar.specs.declared.State.{State}
 use Rattle.grammar.specs.declared.Refusal.{Refusal}
 use Rattle.grammar.proofs.Table.{Agree, Holds, used-fits, cleared, capped-held}
-use Rattle.steps.specs.Does.{plain, goes, Reads}
+use Rattle.steps.specs.Does.{lent, full, plain, goes, Reads}
+use Rattle.steps.specs.declared.state.Spot.{Spot}
 use Rattle.steps.specs.declared.state.Got.{Got}
 use Rattle.steps.specs.declared.state.Answer.the-variants as answer
 use Rattle.reader.specs.Whole.{start, whole, inside, told, outcome, answered, cellsLeft, tableLeft}
@@ -40,16 +41,18 @@ outside-deep s limit deep = outside-at (leb (length s) 4096) (leb limit 200) (lt
 pub told-outside : (s : List ℕ) (limit : ℕ) (t : List ℕ) {st : State} → st ≡ start → inside s limit ≡ false → (record { answer = Outside; state = st } ≡ answered s limit t) × (t ≡ tableLeft s limit t)
 told-outside s limit t e f = (rw (e, f), rw f)
 
-module _ {s t t₁ : List ℕ} {limit room : ℕ} {st : State} {g : Got} (short : length s ≤ 4096) (low : limit ≤ 200) (first : st ≡ start) (rooms : room ≡ min 8192 (nodes t)) (reads : Reads s limit room limit Parse st t plain g t₁) where
-  agrees : Agree t (goes plain g t₁) (whole s limit t)
+module _
+    {s t t₁ names types names₁ types₁ : List ℕ} {limit room : ℕ} {st : Spot} {g : Got} (short : length s ≤ 4096) (low : limit ≤ 200) (first : full st (lent t names types) ≡ start) (rooms : room ≡ min 8192 (nodes t))
+    (reads : Reads s limit room limit Parse st (lent t names types) plain g (lent t₁ names₁ types₁)) where
+  agrees : Agree t (goes plain g (lent t₁ names₁ types₁)) (whole s limit t)
   agrees =
       subst (λ (o : Out ℕ (List ℕ)). Agree t o (whole s limit t)) (sym (reads .is ∙ ap (λ (x : State). readTable body s limit room limit Parse x t) first ∙ ap (λ (r : ℕ). readTable body s limit r limit Parse start t) rooms))
       (capped-held s t start refl refl refl limit 8192 low (omega (arith, short)))
 
   pub counted-fits : g .state .used * 12 ≤ length t₁
-  counted-fits = used-fits (goes plain g t₁) (whole s limit t) agrees
+  counted-fits = used-fits (goes plain g (lent t₁ names₁ types₁)) (whole s limit t) agrees
 
-  pub told-found : {n : ℕ} → g .answer ≡ answer.Node n → (record { answer = Root n; state = g .state } ≡ answered s limit t) × (t₁ ≡ tableLeft s limit t)
+  pub told-found : {n : ℕ} → g .answer ≡ answer.Node n → (record { answer = Root n; state = full (g .state) (lent t₁ names₁ types₁) } ≡ answered s limit t) × (t₁ ≡ tableLeft s limit t)
   told-found {n} e =
       let a = agrees in
       let r : found n ≡ whole s limit t .reply = (rw e refl) ∙ a .reply in
@@ -58,9 +61,9 @@ module _ {s t t₁ : List ℕ} {limit room : ℕ} {st : State} {g : Got} (short 
 
   pub told-refused :
       {why : Refusal} {t₂ : List ℕ} → g .answer ≡ answer.Refused why → t₂ ≡ replicate (g .state .used * 12) 0 ++ drop (g .state .used * 12) t₁ →
-      (record { answer = Refused why; state = g .state } ≡ answered s limit t) × (t₂ ≡ tableLeft s limit t)
+      (record { answer = Refused why; state = full (g .state) (lent t₁ names₁ types₁) } ≡ answered s limit t) × (t₂ ≡ tableLeft s limit t)
   told-refused {why} e z =
       let a = agrees in
       let r : refused why ≡ whole s limit t .reply = (rw e refl) ∙ a .reply in
       let i = inside-true s limit short low in
-      (rw (i, sym r, a .state), rw (i, sym r, a .holds .long) (z ∙ cleared (goes plain g t₁) (whole s limit t) a))
+      (rw (i, sym r, a .state), rw (i, sym r, a .holds .long) (z ∙ cleared (goes plain g (lent t₁ names₁ types₁)) (whole s limit t) a))

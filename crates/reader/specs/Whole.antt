@@ -12,9 +12,14 @@ use Rattle.grammar.specs.Counts.{Node, asks, settle}
 use Rattle.grammar.specs.Table.{cellsOf, sameNodes}
 use Rattle.grammar.specs.Grammar.{Parse, emptyMemo, body}
 use Rattle.grammar.specs.declared.State.{State}
+use Rattle.steps.specs.declared.state.Spot.{Spot}
 use Rattle.reader.specs.declared.Whole.{Whole}
 use Rattle.reader.specs.declared.Whole.the-variants.{Outside, Root, Refused}
 use Rattle.reader.specs.declared.Outcome.{Outcome}
+
+-- a reading begins with an empty memo
+abbrev pub begun : Spot
+begun = record { at = 0; used = 0; deep = 0; «names_len» = 0; «types_len» = 0 }
 
 abbrev pub start : State
 start = record { at = 0; used = 0; deep = 0; memo = emptyMemo }

@@ -2,7 +2,7 @@
 // types, names and parameter lists call each other in a cycle, the remaining depth falling where a part opens.
 
 ghost use mathlib.Core.Path.{_≡_};
-ghost use mathlib.Core.List.{_++_};
+ghost use mathlib.Core.List.{[], _++_};
 ghost use Prim.Native.Nat.{_≤_, _-_, _+_, min};
 ghost use lib.ListN.{length, drop, replicate};
 ghost use Rattle.node.specs.Cells.{nodes};
@@ -11,12 +11,12 @@ ghost use Rattle.forms.specs.declared.begins.ParseForm.the-variants.{Guard, Tem
 ghost use Rattle.grammar.specs.Words.{digit, ordered};
 ghost use Rattle.grammar.specs.Grammar as tags;
 ghost use Rattle.grammar.specs.Grammar.{VarType, Unqualified, Nested, Parse, OuterTemplate, OuterName, OuterGuard, SymbolType, varType, funcType, memberFunctionPointer, array, dimensions, element, funcReturnType, funcParams, params, storedParam, newParam, scope, templateName, unqualifiedName, specialName, nestedName, parseOf};
-ghost use Rattle.steps.specs.Does.{plain, guarded, sized, Does, Reads};
+ghost use Rattle.steps.specs.Does.{plain, guarded, sized, lent, full, Does, Reads};
 ghost use Rattle.shapes.specs.Shapes.{shapeType, shapeSymbol, headed, returned};
 ghost use Rattle.shapes.specs.declared.types.Shape.the-variants.{Named, Pointing, ToFunction};
 ghost use Rattle.shapes.specs.declared.symbols.SymbolShape.the-variants.{Variable};
 ghost use Rattle.ends.specs.Ends.{scopeName};
-ghost use Rattle.reader.specs.Whole.{start, answered, tableLeft};
+ghost use Rattle.reader.specs.Whole.{begun, answered, tableLeft};
 use ends::array_end;
 use ends::ended;
 use ends::guard_of;
@@ -34,6 +34,7 @@ use ends::stored_unless;
 use ends::table_end;
 use ends::template_end;
 use forms::begins::ParseForm;
+use grammar::Memo;
 use grammar::Refusal;
 use grammar::State;
 use shapes::heads::Headed;
@@ -67,20 +68,21 @@ use steps::leaves::number;
 use steps::leaves::pointee_class;
 use steps::leaves::reference;
 use steps::leaves::storage_class;
+use steps::memo::aside;
+use steps::memo::emptied;
 use steps::memo::name_of;
 use steps::memo::type_of;
 use steps::state::Answer;
 use steps::state::Got;
 use steps::state::Limits;
+use steps::state::Spot;
 use steps::state::Value;
-use steps::state::empty_memo;
 use steps::state::found;
 use steps::state::opened;
 use steps::state::refused;
-use steps::state::with_memo;
 
 // One more than the bytes that are left: a list has no more entries.
-fn turns(s: &[u8], st: State) -> usize
+fn turns(s: &[u8], st: Spot) -> usize
     requires { ⌜ length (now s) ≤ 4096 ⌝ }
     ensures { λ r. ⌜ r ≡ length (now (s .entry)) - st .at + 1 ⌝ }
 {
@@ -89,22 +91,40 @@ fn turns(s: &[u8], st: State) -> usize
 }
 
 // read_var_type, as it is called: a stored type opens no part.
-fn vtype(s: &[u8], t: &mut [u32], st: State, lim: Limits, depth: u16, sc: u32) -> Got
+fn vtype(
+    s: &[u8],
+    t: &mut [u32],
+    names: &mut [u16; 10],
+    types: &mut [u16; 10],
+    st: Spot,
+    lim: Limits,
+    depth: u16,
+    sc: u32,
+) -> Got
     requires { ⌜ length (now s) ≤ 4096 ⌝ }
-    ensures { λ r. ⌜ Does (now (s .entry)) (lim .depth) (lim .room) depth (varType sc) st (now (t .entry)) plain r (now (t .exit)) ⌝ }
+    ensures { λ r. ⌜ Does (now (s .entry)) (lim .depth) (lim .room) depth (varType sc) st (lent (now (t .entry)) (now (names .entry)) (now (types .entry))) plain r (lent (now (t .exit)) (now (names .exit)) (now (types .exit))) ⌝ }
 {
     let f = reference(s, st);
     let v = f.value;
     match v {
-        Value::Is(i) => type_of(f.state, i),
-        Value::Bad => ty(s, t, st, lim, depth, sc),
+        Value::Is(i) => type_of(types, f.state, i),
+        Value::Bad => ty(s, t, names, types, st, lim, depth, sc),
     }
 }
 
 // read_var_type
-fn ty(s: &[u8], t: &mut [u32], st: State, lim: Limits, depth: u16, sc: u32) -> Got
+fn ty(
+    s: &[u8],
+    t: &mut [u32],
+    names: &mut [u16; 10],
+    types: &mut [u16; 10],
+    st: Spot,
+    lim: Limits,
+    depth: u16,
+    sc: u32,
+) -> Got
     requires { ⌜ length (now s) ≤ 4096 ⌝ }
-    ensures { λ r. ⌜ Reads (now (s .entry)) (lim .depth) (lim .room) depth (VarType sc) st (now (t .entry)) plain r (now (t .exit)) ⌝ }
+    ensures { λ r. ⌜ Reads (now (s .entry)) (lim .depth) (lim .room) depth (VarType sc) st (lent (now (t .entry)) (now (names .entry)) (now (types .entry))) plain r (lent (now (t .exit)) (now (names .exit)) (now (types .exit))) ⌝ }
 {
     if depth == 0 {
         return refused(Refusal::Deep, st);
@@ -115,12 +135,23 @@ fn ty(s: &[u8], t: &mut [u32], st: State, lim: Limits, depth: u16, sc: u32) -> G
     let next = k.state;
     let f = k.shape;
     match f {
-        Shape::Named(kind, function, class) => named(s, t, next, lim, left, kind, function, class),
-        Shape::Pointing(kind, class) => point(s, t, next, lim, left, kind, class),
-        Shape::ToFunction(kind, class) => tofn(s, t, next, lim, left, kind, class),
-        Shape::Member(qualifiers) => mptr(s, t, next, lim, left, qualifiers),
-        Shape::Function(qualifiers) => func(s, t, next, lim, left, qualifiers),
-        Shape::Array => array(s, t, next, lim, left),
+        Shape::Named(kind, function, class) => named(
+            s,
+            t,
+            names,
+            types,
+            next,
+            lim,
+            left,
+            kind,
+            function,
+            class,
+        ),
+        Shape::Pointing(kind, class) => point(s, t, names, types, next, lim, left, kind, class),
+        Shape::ToFunction(kind, class) => tofn(s, t, names, types, next, lim, left, kind, class),
+        Shape::Member(qualifiers) => mptr(s, t, names, types, next, lim, left, qualifiers),
+        Shape::Function(qualifiers) => func(s, t, names, types, next, lim, left, qualifiers),
+        Shape::Array => array(s, t, names, types, next, lim, left),
         Shape::Leaf(kind, p) => shut_leaf(t, next, lim, kind, p, 0),
         Shape::Refused => refused(Refusal::Syntax, next),
     }
@@ -130,7 +161,9 @@ fn ty(s: &[u8], t: &mut [u32], st: State, lim: Limits, depth: u16, sc: u32) -> G
 fn named(
     s: &[u8],
     t: &mut [u32],
-    st: State,
+    names: &mut [u16; 10],
+    types: &mut [u16; 10],
+    st: Spot,
     lim: Limits,
     depth: u16,
     kind: u32,
@@ -138,70 +171,151 @@ fn named(
     class: u32,
 ) -> Got
     requires { ⌜ length (now s) ≤ 4096 ⌝ }
-    ensures { λ r. ⌜ Does (now (s .entry)) (lim .depth) (lim .room) depth (shapeType (Named kind function class)) st (now (t .entry)) plain r (now (t .exit)) ⌝ }
+    ensures { λ r. ⌜ Does (now (s .entry)) (lim .depth) (lim .room) depth (shapeType (Named kind function class)) st (lent (now (t .entry)) (now (names .entry)) (now (types .entry))) plain r (lent (now (t .exit)) (now (names .exit)) (now (types .exit))) ⌝ }
 {
-    let g = name(s, t, st, lim, depth, function);
+    let g = name(s, t, names, types, st, lim, depth, function);
     above(t, g, lim, kind, class, 0)
 }
 
 // A type above a pointee.
-fn point(s: &[u8], t: &mut [u32], st: State, lim: Limits, depth: u16, kind: u32, class: u32) -> Got
+fn point(
+    s: &[u8],
+    t: &mut [u32],
+    names: &mut [u16; 10],
+    types: &mut [u16; 10],
+    st: Spot,
+    lim: Limits,
+    depth: u16,
+    kind: u32,
+    class: u32,
+) -> Got
     requires { ⌜ length (now s) ≤ 4096 ⌝ }
-    ensures { λ r. ⌜ Does (now (s .entry)) (lim .depth) (lim .room) depth (shapeType (Pointing kind class)) st (now (t .entry)) plain r (now (t .exit)) ⌝ }
+    ensures { λ r. ⌜ Does (now (s .entry)) (lim .depth) (lim .room) depth (shapeType (Pointing kind class)) st (lent (now (t .entry)) (now (names .entry)) (now (types .entry))) plain r (lent (now (t .exit)) (now (names .exit)) (now (types .exit))) ⌝ }
 {
     let c = pointee_class(s, st);
-    let g = vtype(s, t, c.state, lim, depth, c.bits);
+    let g = vtype(s, t, names, types, c.state, lim, depth, c.bits);
     above(t, g, lim, kind, class, 0)
 }
 
 // A type above a function, which is a part of its own.
-fn tofn(s: &[u8], t: &mut [u32], st: State, lim: Limits, depth: u16, kind: u32, class: u32) -> Got
+fn tofn(
+    s: &[u8],
+    t: &mut [u32],
+    names: &mut [u16; 10],
+    types: &mut [u16; 10],
+    st: Spot,
+    lim: Limits,
+    depth: u16,
+    kind: u32,
+    class: u32,
+) -> Got
     requires { ⌜ length (now s) ≤ 4096 ⌝ }
-    ensures { λ r. ⌜ Does (now (s .entry)) (lim .depth) (lim .room) depth (shapeType (ToFunction kind class)) st (now (t .entry)) plain r (now (t .exit)) ⌝ }
+    ensures { λ r. ⌜ Does (now (s .entry)) (lim .depth) (lim .room) depth (shapeType (ToFunction kind class)) st (lent (now (t .entry)) (now (names .entry)) (now (types .entry))) plain r (lent (now (t .exit)) (now (names .exit)) (now (types .exit))) ⌝ }
 {
     if depth == 0 {
         return refused(Refusal::Deep, st);
     }
 
     let left = depth - 1;
-    let g = func(s, t, opened(st, lim.depth, left), lim, left, false);
+    let g = func(
+        s,
+        t,
+        names,
+        types,
+        opened(st, lim.depth, left),
+        lim,
+        left,
+        false,
+    );
     above(t, g, lim, kind, class, 0)
 }
 
 // read_func_type
-fn func(s: &[u8], t: &mut [u32], st: State, lim: Limits, depth: u16, qualifiers: bool) -> Got
+fn func(
+    s: &[u8],
+    t: &mut [u32],
+    names: &mut [u16; 10],
+    types: &mut [u16; 10],
+    st: Spot,
+    lim: Limits,
+    depth: u16,
+    qualifiers: bool,
+) -> Got
     requires { ⌜ length (now s) ≤ 4096 ⌝ }
-    ensures { λ r. ⌜ Does (now (s .entry)) (lim .depth) (lim .room) depth (funcType qualifiers) st (now (t .entry)) plain r (now (t .exit)) ⌝ }
+    ensures { λ r. ⌜ Does (now (s .entry)) (lim .depth) (lim .room) depth (funcType qualifiers) st (lent (now (t .entry)) (now (names .entry)) (now (types .entry))) plain r (lent (now (t .exit)) (now (names .exit)) (now (types .exit))) ⌝ }
 {
-    tail(s, t, function_head(s, st, qualifiers), lim, depth)
+    tail(
+        s,
+        t,
+        names,
+        types,
+        function_head(s, st, qualifiers),
+        lim,
+        depth,
+    )
 }
 
 // read_member_function_pointer
-fn mptr(s: &[u8], t: &mut [u32], st: State, lim: Limits, depth: u16, qualifiers: bool) -> Got
+fn mptr(
+    s: &[u8],
+    t: &mut [u32],
+    names: &mut [u16; 10],
+    types: &mut [u16; 10],
+    st: Spot,
+    lim: Limits,
+    depth: u16,
+    qualifiers: bool,
+) -> Got
     requires { ⌜ length (now s) ≤ 4096 ⌝ }
-    ensures { λ r. ⌜ Does (now (s .entry)) (lim .depth) (lim .room) depth (memberFunctionPointer qualifiers) st (now (t .entry)) plain r (now (t .exit)) ⌝ }
+    ensures { λ r. ⌜ Does (now (s .entry)) (lim .depth) (lim .room) depth (memberFunctionPointer qualifiers) st (lent (now (t .entry)) (now (names .entry)) (now (types .entry))) plain r (lent (now (t .exit)) (now (names .exit)) (now (types .exit))) ⌝ }
 {
-    let g = name(s, t, st, lim, depth, true);
+    let g = name(s, t, names, types, st, lim, depth, true);
     let a = g.answer;
     match a {
-        Answer::Node(n) => tail(s, t, pointer_head(s, g.state, n, qualifiers), lim, depth),
+        Answer::Node(n) => tail(
+            s,
+            t,
+            names,
+            types,
+            pointer_head(s, g.state, n, qualifiers),
+            lim,
+            depth,
+        ),
         Answer::Refused(_) => g,
     }
 }
 
 // A function's return and its parameters, behind its head.
-fn tail(s: &[u8], t: &mut [u32], h: Headed, lim: Limits, depth: u16) -> Got
+fn tail(
+    s: &[u8],
+    t: &mut [u32],
+    names: &mut [u16; 10],
+    types: &mut [u16; 10],
+    h: Headed,
+    lim: Limits,
+    depth: u16,
+) -> Got
     requires { ⌜ length (now s) ≤ 4096 ⌝ }
-    ensures { λ r. ⌜ Does (now (s .entry)) (lim .depth) (lim .room) depth (headed h) (h .state) (now (t .entry)) plain r (now (t .exit)) ⌝ }
+    ensures { λ r. ⌜ Does (now (s .entry)) (lim .depth) (lim .room) depth (headed h) (h .state) (lent (now (t .entry)) (now (names .entry)) (now (types .entry))) plain r (lent (now (t .exit)) (now (names .exit)) (now (types .exit))) ⌝ }
 {
     let st = h.state;
     let x = h.signature;
     if h.good {
-        let g = rett(s, t, st, lim, depth, x.return_class, x.structor);
+        let g = rett(
+            s,
+            t,
+            names,
+            types,
+            st,
+            lim,
+            depth,
+            x.return_class,
+            x.structor,
+        );
         let a = g.answer;
         return match a {
             Answer::Node(n) => {
-                let l = fparams(s, t, g.state, lim, depth);
+                let l = fparams(s, t, names, types, g.state, lim, depth);
                 over(
                     t,
                     l,
@@ -224,31 +338,58 @@ fn tail(s: &[u8], t: &mut [u32], h: Headed, lim: Limits, depth: u16) -> Got
 }
 
 // The return of a function: a structor's may be missing.
-fn rett(s: &[u8], t: &mut [u32], st: State, lim: Limits, depth: u16, sc: u32, structor: bool) -> Got
+fn rett(
+    s: &[u8],
+    t: &mut [u32],
+    names: &mut [u16; 10],
+    types: &mut [u16; 10],
+    st: Spot,
+    lim: Limits,
+    depth: u16,
+    sc: u32,
+    structor: bool,
+) -> Got
     requires { ⌜ length (now s) ≤ 4096 ⌝ }
-    ensures { λ r. ⌜ Does (now (s .entry)) (lim .depth) (lim .room) depth (returned structor sc) st (now (t .entry)) plain r (now (t .exit)) ⌝ }
+    ensures { λ r. ⌜ Does (now (s .entry)) (lim .depth) (lim .room) depth (returned structor sc) st (lent (now (t .entry)) (now (names .entry)) (now (types .entry))) plain r (lent (now (t .exit)) (now (names .exit)) (now (types .exit))) ⌝ }
 {
     if structor {
-        return strt(s, t, st, lim, depth, sc);
+        return strt(s, t, names, types, st, lim, depth, sc);
     }
-    vtype(s, t, st, lim, depth, sc)
+    vtype(s, t, names, types, st, lim, depth, sc)
 }
 
 // read_func_return_type
-fn strt(s: &[u8], t: &mut [u32], st: State, lim: Limits, depth: u16, sc: u32) -> Got
+fn strt(
+    s: &[u8],
+    t: &mut [u32],
+    names: &mut [u16; 10],
+    types: &mut [u16; 10],
+    st: Spot,
+    lim: Limits,
+    depth: u16,
+    sc: u32,
+) -> Got
     requires { ⌜ length (now s) ≤ 4096 ⌝ }
-    ensures { λ r. ⌜ Does (now (s .entry)) (lim .depth) (lim .room) depth (funcReturnType sc) st (now (t .entry)) plain r (now (t .exit)) ⌝ }
+    ensures { λ r. ⌜ Does (now (s .entry)) (lim .depth) (lim .room) depth (funcReturnType sc) st (lent (now (t .entry)) (now (names .entry)) (now (types .entry))) plain r (lent (now (t .exit)) (now (names .exit)) (now (types .exit))) ⌝ }
 {
     if scan::cursor::consume(b"@", s, st.at as usize) {
         return literal_part(b"@", s, t, st, lim, depth, 17, 0);
     }
-    vtype(s, t, st, lim, depth, sc)
+    vtype(s, t, names, types, st, lim, depth, sc)
 }
 
 // read_array
-fn array(s: &[u8], t: &mut [u32], st: State, lim: Limits, depth: u16) -> Got
+fn array(
+    s: &[u8],
+    t: &mut [u32],
+    names: &mut [u16; 10],
+    types: &mut [u16; 10],
+    st: Spot,
+    lim: Limits,
+    depth: u16,
+) -> Got
     requires { ⌜ length (now s) ≤ 4096 ⌝ }
-    ensures { λ r. ⌜ Does (now (s .entry)) (lim .depth) (lim .room) depth array st (now (t .entry)) plain r (now (t .exit)) ⌝ }
+    ensures { λ r. ⌜ Does (now (s .entry)) (lim .depth) (lim .room) depth array st (lent (now (t .entry)) (now (names .entry)) (now (types .entry))) plain r (lent (now (t .exit)) (now (names .exit)) (now (types .exit))) ⌝ }
 {
     let k = number(s, st);
     let v = k.value;
@@ -260,16 +401,25 @@ fn array(s: &[u8], t: &mut [u32], st: State, lim: Limits, depth: u16) -> Got
             if 0x8000_0000 <= n {
                 return refused(Refusal::Syntax, k.state);
             }
-            dims(s, t, k.state, lim, depth, n)
+            dims(s, t, names, types, k.state, lim, depth, n)
         }
         Value::Bad => refused(Refusal::Syntax, k.state),
     }
 }
 
 // read_nested_array: a dimension, and one less inside it.
-fn dims(s: &[u8], t: &mut [u32], st: State, lim: Limits, depth: u16, dimension: u32) -> Got
+fn dims(
+    s: &[u8],
+    t: &mut [u32],
+    names: &mut [u16; 10],
+    types: &mut [u16; 10],
+    st: Spot,
+    lim: Limits,
+    depth: u16,
+    dimension: u32,
+) -> Got
     requires { ⌜ length (now s) ≤ 4096 ⌝ }
-    ensures { λ r. ⌜ Does (now (s .entry)) (lim .depth) (lim .room) depth (dimensions dimension) st (now (t .entry)) sized r (now (t .exit)) ⌝ }
+    ensures { λ r. ⌜ Does (now (s .entry)) (lim .depth) (lim .room) depth (dimensions dimension) st (lent (now (t .entry)) (now (names .entry)) (now (types .entry))) sized r (lent (now (t .exit)) (now (names .exit)) (now (types .exit))) ⌝ }
 {
     let k = number(s, st);
     let v = k.value;
@@ -277,7 +427,7 @@ fn dims(s: &[u8], t: &mut [u32], st: State, lim: Limits, depth: u16, dimension: 
     match v {
         Value::Is(len) => {
             if dimension <= 1 {
-                let g = elem(s, t, next, lim, depth);
+                let g = elem(s, t, names, types, next, lim, depth);
                 return array_end(t, g, lim, len);
             }
             if depth == 0 {
@@ -287,6 +437,8 @@ fn dims(s: &[u8], t: &mut [u32], st: State, lim: Limits, depth: u16, dimension: 
             let g = dims(
                 s,
                 t,
+                names,
+                types,
                 opened(next, lim.depth, left),
                 lim,
                 left,
@@ -299,15 +451,23 @@ fn dims(s: &[u8], t: &mut [u32], st: State, lim: Limits, depth: u16, dimension: 
 }
 
 // An array's element, with its class.
-fn elem(s: &[u8], t: &mut [u32], st: State, lim: Limits, depth: u16) -> Got
+fn elem(
+    s: &[u8],
+    t: &mut [u32],
+    names: &mut [u16; 10],
+    types: &mut [u16; 10],
+    st: Spot,
+    lim: Limits,
+    depth: u16,
+) -> Got
     requires { ⌜ length (now s) ≤ 4096 ⌝ }
-    ensures { λ r. ⌜ Does (now (s .entry)) (lim .depth) (lim .room) depth element st (now (t .entry)) sized r (now (t .exit)) ⌝ }
+    ensures { λ r. ⌜ Does (now (s .entry)) (lim .depth) (lim .room) depth element st (lent (now (t .entry)) (now (names .entry)) (now (types .entry))) sized r (lent (now (t .exit)) (now (names .exit)) (now (types .exit))) ⌝ }
 {
     let c = element_class(s, st);
     let v = c.value;
     match v {
         Value::Is(class) => {
-            let g = vtype(s, t, c.state, lim, depth, 0);
+            let g = vtype(s, t, names, types, c.state, lim, depth, 0);
             beside(g, class)
         }
         Value::Bad => refused(Refusal::Syntax, c.state),
@@ -315,23 +475,39 @@ fn elem(s: &[u8], t: &mut [u32], st: State, lim: Limits, depth: u16) -> Got
 }
 
 // read_func_params
-fn fparams(s: &[u8], t: &mut [u32], st: State, lim: Limits, depth: u16) -> Got
+fn fparams(
+    s: &[u8],
+    t: &mut [u32],
+    names: &mut [u16; 10],
+    types: &mut [u16; 10],
+    st: Spot,
+    lim: Limits,
+    depth: u16,
+) -> Got
     requires { ⌜ length (now s) ≤ 4096 ⌝ }
-    ensures { λ r. ⌜ Does (now (s .entry)) (lim .depth) (lim .room) depth funcParams st (now (t .entry)) plain r (now (t .exit)) ⌝ }
+    ensures { λ r. ⌜ Does (now (s .entry)) (lim .depth) (lim .room) depth funcParams st (lent (now (t .entry)) (now (names .entry)) (now (types .entry))) plain r (lent (now (t .exit)) (now (names .exit)) (now (types .exit))) ⌝ }
 {
     if scan::cursor::consume(b"X", s, st.at as usize) {
         let x = literal_part(b"X", s, t, st, lim, depth, 38, 0);
         let l = placed(t, x, lim, 2, 0);
         return ended(s, l);
     }
-    let g = params(s, t, st, lim, depth);
+    let g = params(s, t, names, types, st, lim, depth);
     ended(s, g)
 }
 
 // read_params
-fn params(s: &[u8], t: &mut [u32], first: State, lim: Limits, depth: u16) -> Got
+fn params(
+    s: &[u8],
+    t: &mut [u32],
+    names: &mut [u16; 10],
+    types: &mut [u16; 10],
+    first: Spot,
+    lim: Limits,
+    depth: u16,
+) -> Got
     requires { ⌜ length (now s) ≤ 4096 ⌝ }
-    ensures { λ r. ⌜ Does (now (s .entry)) (lim .depth) (lim .room) depth params first (now (t .entry)) plain r (now (t .exit)) ⌝ }
+    ensures { λ r. ⌜ Does (now (s .entry)) (lim .depth) (lim .room) depth params first (lent (now (t .entry)) (now (names .entry)) (now (types .entry))) plain r (lent (now (t .exit)) (now (names .exit)) (now (types .exit))) ⌝ }
 {
     let mut st = first;
     let mut last = 0u16;
@@ -340,7 +516,7 @@ fn params(s: &[u8], t: &mut [u32], first: State, lim: Limits, depth: u16) -> Got
         if list_stops(s, st) {
             return list_end(s, t, st, lim, depth, last);
         }
-        let g = param(s, t, st, lim, depth, last);
+        let g = param(s, t, names, types, st, lim, depth, last);
         let a = g.answer;
         match a {
             Answer::Node(p) => {
@@ -356,25 +532,42 @@ fn params(s: &[u8], t: &mut [u32], first: State, lim: Limits, depth: u16) -> Got
 }
 
 // A parameter and its place.
-fn param(s: &[u8], t: &mut [u32], st: State, lim: Limits, depth: u16, last: u16) -> Got
+fn param(
+    s: &[u8],
+    t: &mut [u32],
+    names: &mut [u16; 10],
+    types: &mut [u16; 10],
+    st: Spot,
+    lim: Limits,
+    depth: u16,
+    last: u16,
+) -> Got
     requires { ⌜ length (now s) ≤ 4096 ⌝ }
-    ensures { λ r. ⌜ Does (now (s .entry)) (lim .depth) (lim .room) depth (digit (storedParam last) (newParam last)) st (now (t .entry)) plain r (now (t .exit)) ⌝ }
+    ensures { λ r. ⌜ Does (now (s .entry)) (lim .depth) (lim .room) depth (digit (storedParam last) (newParam last)) st (lent (now (t .entry)) (now (names .entry)) (now (types .entry))) plain r (lent (now (t .exit)) (now (names .exit)) (now (types .exit))) ⌝ }
 {
     let d = digit(s, st);
     let v = d.value;
     match v {
-        Value::Is(i) => placed(t, type_of(d.state, i), lim, 2, last),
+        Value::Is(i) => placed(t, type_of(types, d.state, i), lim, 2, last),
         Value::Bad => {
-            let g = vtype(s, t, st, lim, depth, 0);
-            param_end(s, t, g, lim, st.at, last)
+            let g = vtype(s, t, names, types, st, lim, depth, 0);
+            param_end(s, t, types, g, lim, st.at, last)
         }
     }
 }
 
 // read_scope
-fn scope(s: &[u8], t: &mut [u32], first: State, lim: Limits, depth: u16) -> Got
+fn scope(
+    s: &[u8],
+    t: &mut [u32],
+    names: &mut [u16; 10],
+    types: &mut [u16; 10],
+    first: Spot,
+    lim: Limits,
+    depth: u16,
+) -> Got
     requires { ⌜ length (now s) ≤ 4096 ⌝ }
-    ensures { λ r. ⌜ Does (now (s .entry)) (lim .depth) (lim .room) depth scope first (now (t .entry)) plain r (now (t .exit)) ⌝ }
+    ensures { λ r. ⌜ Does (now (s .entry)) (lim .depth) (lim .room) depth scope first (lent (now (t .entry)) (now (names .entry)) (now (types .entry))) plain r (lent (now (t .exit)) (now (names .exit)) (now (types .exit))) ⌝ }
 {
     let mut st = first;
     let mut last = 0u16;
@@ -386,7 +579,7 @@ fn scope(s: &[u8], t: &mut [u32], first: State, lim: Limits, depth: u16) -> Got
             Value::Is(_) => return found(last, e.state),
             Value::Bad => {}
         }
-        let g = sname(s, t, st, lim, depth, last);
+        let g = sname(s, t, names, types, st, lim, depth, last);
         let a = g.answer;
         match a {
             Answer::Node(p) => {
@@ -402,47 +595,81 @@ fn scope(s: &[u8], t: &mut [u32], first: State, lim: Limits, depth: u16) -> Got
 }
 
 // A name of a scope and its place.
-fn sname(s: &[u8], t: &mut [u32], st: State, lim: Limits, depth: u16, last: u16) -> Got
+fn sname(
+    s: &[u8],
+    t: &mut [u32],
+    names: &mut [u16; 10],
+    types: &mut [u16; 10],
+    st: Spot,
+    lim: Limits,
+    depth: u16,
+    last: u16,
+) -> Got
     requires { ⌜ length (now s) ≤ 4096 ⌝ }
-    ensures { λ r. ⌜ Does (now (s .entry)) (lim .depth) (lim .room) depth (scopeName last) st (now (t .entry)) plain r (now (t .exit)) ⌝ }
+    ensures { λ r. ⌜ Does (now (s .entry)) (lim .depth) (lim .room) depth (scopeName last) st (lent (now (t .entry)) (now (names .entry)) (now (types .entry))) plain r (lent (now (t .exit)) (now (names .exit)) (now (types .exit))) ⌝ }
 {
-    let g = nname(s, t, st, lim, depth);
+    let g = nname(s, t, names, types, st, lim, depth);
     placed(t, g, lim, 1, last)
 }
 
 // read_template_name: its own memo, and the outer one comes back.
-fn tmpl(s: &[u8], t: &mut [u32], st: State, lim: Limits, depth: u16) -> Got
+fn tmpl(
+    s: &[u8],
+    t: &mut [u32],
+    names: &mut [u16; 10],
+    types: &mut [u16; 10],
+    st: Spot,
+    lim: Limits,
+    depth: u16,
+) -> Got
     requires { ⌜ length (now s) ≤ 4096 ⌝ }
-    ensures { λ r. ⌜ Does (now (s .entry)) (lim .depth) (lim .room) depth templateName st (now (t .entry)) plain r (now (t .exit)) ⌝ }
+    ensures { λ r. ⌜ Does (now (s .entry)) (lim .depth) (lim .room) depth templateName st (lent (now (t .entry)) (now (names .entry)) (now (types .entry))) plain r (lent (now (t .exit)) (now (names .exit)) (now (types .exit))) ⌝ }
 {
-    let outer = st.memo;
-    let own = empty_memo();
-    let g = unqn(s, t, with_memo(st, own), lim, depth, false);
+    let outer = aside(names, types, st);
+    let g = unqn(s, t, names, types, emptied(st), lim, depth, false);
     let a = g.answer;
     match a {
         Answer::Node(n) => {
-            let l = params(s, t, g.state, lim, depth);
-            template_end(t, l, lim, n, outer)
+            let l = params(s, t, names, types, g.state, lim, depth);
+            template_end(t, names, types, l, lim, n, outer)
         }
         Answer::Refused(_) => g,
     }
 }
 
 // read_name
-fn name(s: &[u8], t: &mut [u32], st: State, lim: Limits, depth: u16, function: bool) -> Got
+fn name(
+    s: &[u8],
+    t: &mut [u32],
+    names: &mut [u16; 10],
+    types: &mut [u16; 10],
+    st: Spot,
+    lim: Limits,
+    depth: u16,
+    function: bool,
+) -> Got
     requires { ⌜ length (now s) ≤ 4096 ⌝ }
-    ensures { λ r. ⌜ Reads (now (s .entry)) (lim .depth) (lim .room) depth (tags.Name function) st (now (t .entry)) guarded r (now (t .exit)) ⌝ }
+    ensures { λ r. ⌜ Reads (now (s .entry)) (lim .depth) (lim .room) depth (tags.Name function) st (lent (now (t .entry)) (now (names .entry)) (now (types .entry))) guarded r (lent (now (t .exit)) (now (names .exit)) (now (types .exit))) ⌝ }
 {
     if depth == 0 {
         return refused(Refusal::Deep, st);
     }
 
     let left = depth - 1;
-    let g = unqn(s, t, opened(st, lim.depth, left), lim, left, function);
+    let g = unqn(
+        s,
+        t,
+        names,
+        types,
+        opened(st, lim.depth, left),
+        lim,
+        left,
+        function,
+    );
     let a = g.answer;
     match a {
         Answer::Node(n) => {
-            let l = scope(s, t, g.state, lim, left);
+            let l = scope(s, t, names, types, g.state, lim, left);
             let k = over(t, l, lim, made(4, (n as u32) + 1, 0, 0, 0, 0, 0));
             beside(k, g.extra)
         }
@@ -451,22 +678,40 @@ fn name(s: &[u8], t: &mut [u32], st: State, lim: Limits, depth: u16, function: b
 }
 
 // read_unqualified_name, as it is called: a digit opens no part.
-fn unqn(s: &[u8], t: &mut [u32], st: State, lim: Limits, depth: u16, function: bool) -> Got
+fn unqn(
+    s: &[u8],
+    t: &mut [u32],
+    names: &mut [u16; 10],
+    types: &mut [u16; 10],
+    st: Spot,
+    lim: Limits,
+    depth: u16,
+    function: bool,
+) -> Got
     requires { ⌜ length (now s) ≤ 4096 ⌝ }
-    ensures { λ r. ⌜ Does (now (s .entry)) (lim .depth) (lim .room) depth (unqualifiedName function) st (now (t .entry)) guarded r (now (t .exit)) ⌝ }
+    ensures { λ r. ⌜ Does (now (s .entry)) (lim .depth) (lim .room) depth (unqualifiedName function) st (lent (now (t .entry)) (now (names .entry)) (now (types .entry))) guarded r (lent (now (t .exit)) (now (names .exit)) (now (types .exit))) ⌝ }
 {
     let d = digit(s, st);
     let v = d.value;
     match v {
-        Value::Is(i) => name_of(d.state, i),
-        Value::Bad => unq(s, t, st, lim, depth, function),
+        Value::Is(i) => name_of(names, d.state, i),
+        Value::Bad => unq(s, t, names, types, st, lim, depth, function),
     }
 }
 
 // read_unqualified_name
-fn unq(s: &[u8], t: &mut [u32], st: State, lim: Limits, depth: u16, function: bool) -> Got
+fn unq(
+    s: &[u8],
+    t: &mut [u32],
+    names: &mut [u16; 10],
+    types: &mut [u16; 10],
+    st: Spot,
+    lim: Limits,
+    depth: u16,
+    function: bool,
+) -> Got
     requires { ⌜ length (now s) ≤ 4096 ⌝ }
-    ensures { λ r. ⌜ Reads (now (s .entry)) (lim .depth) (lim .room) depth (Unqualified function) st (now (t .entry)) guarded r (now (t .exit)) ⌝ }
+    ensures { λ r. ⌜ Reads (now (s .entry)) (lim .depth) (lim .room) depth (Unqualified function) st (lent (now (t .entry)) (now (names .entry)) (now (types .entry))) guarded r (lent (now (t .exit)) (now (names .exit)) (now (types .exit))) ⌝ }
 {
     if depth == 0 {
         return refused(Refusal::Deep, st);
@@ -478,12 +723,12 @@ fn unq(s: &[u8], t: &mut [u32], st: State, lim: Limits, depth: u16, function: bo
     let f = k.shape;
     match f {
         UnqualifiedShape::Template => {
-            let g = tmpl(s, t, next, lim, left);
-            stored_unless(s, t, g, function)
+            let g = tmpl(s, t, names, types, next, lim, left);
+            stored_unless(s, t, names, g, function)
         }
-        UnqualifiedShape::Special => special(s, t, next, lim, left),
+        UnqualifiedShape::Special => special(s, t, names, types, next, lim, left),
         UnqualifiedShape::Plain(start, len) => beside(
-            leaf_name(s, t, next, lim, 10, start, len, true),
+            leaf_name(s, t, names, next, lim, 10, start, len, true),
             0,
         ),
         UnqualifiedShape::Refused => refused(Refusal::Syntax, next),
@@ -491,9 +736,17 @@ fn unq(s: &[u8], t: &mut [u32], st: State, lim: Limits, depth: u16, function: bo
 }
 
 // read_special_name
-fn special(s: &[u8], t: &mut [u32], st: State, lim: Limits, depth: u16) -> Got
+fn special(
+    s: &[u8],
+    t: &mut [u32],
+    names: &mut [u16; 10],
+    types: &mut [u16; 10],
+    st: Spot,
+    lim: Limits,
+    depth: u16,
+) -> Got
     requires { ⌜ length (now s) ≤ 4096 ⌝ }
-    ensures { λ r. ⌜ Does (now (s .entry)) (lim .depth) (lim .room) depth specialName st (now (t .entry)) guarded r (now (t .exit)) ⌝ }
+    ensures { λ r. ⌜ Does (now (s .entry)) (lim .depth) (lim .room) depth specialName st (lent (now (t .entry)) (now (names .entry)) (now (types .entry))) guarded r (lent (now (t .exit)) (now (names .exit)) (now (types .exit))) ⌝ }
 {
     let k = special_shape(s, st);
     let next = k.state;
@@ -501,7 +754,7 @@ fn special(s: &[u8], t: &mut [u32], st: State, lim: Limits, depth: u16) -> Got
     match f {
         SpecialShape::Operator(op) => beside(shut_leaf(t, next, lim, 7, op, 0), guard_of(op)),
         SpecialShape::Type(class) => {
-            let g = vtype(s, t, next, lim, depth, class);
+            let g = vtype(s, t, names, types, next, lim, depth, class);
             beside(above(t, g, lim, 8, class, 0), 0)
         }
         SpecialShape::Base(p, q, r, flags) => beside(shut_base(t, next, lim, p, q, r, flags), 0),
@@ -510,22 +763,38 @@ fn special(s: &[u8], t: &mut [u32], st: State, lim: Limits, depth: u16) -> Got
 }
 
 // read_nested_name, as it is called: a digit opens no part.
-fn nname(s: &[u8], t: &mut [u32], st: State, lim: Limits, depth: u16) -> Got
+fn nname(
+    s: &[u8],
+    t: &mut [u32],
+    names: &mut [u16; 10],
+    types: &mut [u16; 10],
+    st: Spot,
+    lim: Limits,
+    depth: u16,
+) -> Got
     requires { ⌜ length (now s) ≤ 4096 ⌝ }
-    ensures { λ r. ⌜ Does (now (s .entry)) (lim .depth) (lim .room) depth nestedName st (now (t .entry)) plain r (now (t .exit)) ⌝ }
+    ensures { λ r. ⌜ Does (now (s .entry)) (lim .depth) (lim .room) depth nestedName st (lent (now (t .entry)) (now (names .entry)) (now (types .entry))) plain r (lent (now (t .exit)) (now (names .exit)) (now (types .exit))) ⌝ }
 {
     let d = digit(s, st);
     let v = d.value;
     match v {
-        Value::Is(i) => name_of(d.state, i),
-        Value::Bad => nested(s, t, st, lim, depth),
+        Value::Is(i) => name_of(names, d.state, i),
+        Value::Bad => nested(s, t, names, types, st, lim, depth),
     }
 }
 
 // read_nested_name
-fn nested(s: &[u8], t: &mut [u32], st: State, lim: Limits, depth: u16) -> Got
+fn nested(
+    s: &[u8],
+    t: &mut [u32],
+    names: &mut [u16; 10],
+    types: &mut [u16; 10],
+    st: Spot,
+    lim: Limits,
+    depth: u16,
+) -> Got
     requires { ⌜ length (now s) ≤ 4096 ⌝ }
-    ensures { λ r. ⌜ Reads (now (s .entry)) (lim .depth) (lim .room) depth Nested st (now (t .entry)) plain r (now (t .exit)) ⌝ }
+    ensures { λ r. ⌜ Reads (now (s .entry)) (lim .depth) (lim .room) depth Nested st (lent (now (t .entry)) (now (names .entry)) (now (types .entry))) plain r (lent (now (t .exit)) (now (names .exit)) (now (types .exit))) ⌝ }
 {
     if depth == 0 {
         return refused(Refusal::Deep, st);
@@ -536,24 +805,42 @@ fn nested(s: &[u8], t: &mut [u32], st: State, lim: Limits, depth: u16) -> Got
     let next = k.state;
     let f = k.shape;
     match f {
-        NameShape::Stored(i) => name_of(next, i),
+        NameShape::Stored(i) => name_of(names, next, i),
         NameShape::Parsed => {
-            let g = parse(s, t, next, lim, left);
+            let g = parse(s, t, names, types, next, lim, left);
             above(t, g, lim, 14, 0, 0)
         }
         NameShape::Template => {
-            let g = tmpl(s, t, next, lim, left);
-            memorized(s, t, g)
+            let g = tmpl(s, t, names, types, next, lim, left);
+            memorized(s, t, names, g)
         }
-        NameShape::Leaf(kind, p, q, stored) => leaf_name(s, t, next, lim, kind, p, q, stored),
+        NameShape::Leaf(kind, p, q, stored) => leaf_name(
+            s,
+            t,
+            names,
+            next,
+            lim,
+            kind,
+            p,
+            q,
+            stored,
+        ),
         NameShape::Refused => refused(Refusal::Syntax, next),
     }
 }
 
 // parse
-fn parse(s: &[u8], t: &mut [u32], st: State, lim: Limits, depth: u16) -> Got
+fn parse(
+    s: &[u8],
+    t: &mut [u32],
+    names: &mut [u16; 10],
+    types: &mut [u16; 10],
+    st: Spot,
+    lim: Limits,
+    depth: u16,
+) -> Got
     requires { ⌜ length (now s) ≤ 4096 ⌝ }
-    ensures { λ r. ⌜ Reads (now (s .entry)) (lim .depth) (lim .room) depth Parse st (now (t .entry)) plain r (now (t .exit)) ⌝ }
+    ensures { λ r. ⌜ Reads (now (s .entry)) (lim .depth) (lim .room) depth Parse st (lent (now (t .entry)) (now (names .entry)) (now (types .entry))) plain r (lent (now (t .exit)) (now (names .exit)) (now (types .exit))) ⌝ }
 {
     if depth == 0 {
         return refused(Refusal::Deep, st);
@@ -563,33 +850,49 @@ fn parse(s: &[u8], t: &mut [u32], st: State, lim: Limits, depth: u16) -> Got
     let e = expect(b"?", s, opened(st, lim.depth, left));
     let v = e.value;
     match v {
-        Value::Is(_) => pform(s, t, e.state, lim, left),
+        Value::Is(_) => pform(s, t, names, types, e.state, lim, left),
         Value::Bad => refused(Refusal::Syntax, e.state),
     }
 }
 
 // parse, behind its `?`.
-fn pform(s: &[u8], t: &mut [u32], st: State, lim: Limits, depth: u16) -> Got
+fn pform(
+    s: &[u8],
+    t: &mut [u32],
+    names: &mut [u16; 10],
+    types: &mut [u16; 10],
+    st: Spot,
+    lim: Limits,
+    depth: u16,
+) -> Got
     requires { ⌜ length (now s) ≤ 4096 ⌝ }
-    ensures { λ r. ⌜ Does (now (s .entry)) (lim .depth) (lim .room) depth (ordered parseForms parseOf (parseOf Name)) st (now (t .entry)) plain r (now (t .exit)) ⌝ }
+    ensures { λ r. ⌜ Does (now (s .entry)) (lim .depth) (lim .room) depth (ordered parseForms parseOf (parseOf Name)) st (lent (now (t .entry)) (now (names .entry)) (now (types .entry))) plain r (lent (now (t .exit)) (now (names .exit)) (now (types .exit))) ⌝ }
 {
     let k = parse_form(s, st);
     let next = k.state;
     let f = k.form;
     match f {
         ParseForm::Md5 => parse_md5(s, t, next, lim, depth),
-        ParseForm::Guard => pguard(s, t, next, lim, depth),
-        ParseForm::Template => ptmpl(s, t, next, lim, depth),
-        ParseForm::Name => pname(s, t, next, lim, depth),
+        ParseForm::Guard => pguard(s, t, names, types, next, lim, depth),
+        ParseForm::Template => ptmpl(s, t, names, types, next, lim, depth),
+        ParseForm::Name => pname(s, t, names, types, next, lim, depth),
     }
 }
 
 // parse of a name and its type.
-fn pname(s: &[u8], t: &mut [u32], st: State, lim: Limits, depth: u16) -> Got
+fn pname(
+    s: &[u8],
+    t: &mut [u32],
+    names: &mut [u16; 10],
+    types: &mut [u16; 10],
+    st: Spot,
+    lim: Limits,
+    depth: u16,
+) -> Got
     requires { ⌜ length (now s) ≤ 4096 ⌝ }
-    ensures { λ r. ⌜ Does (now (s .entry)) (lim .depth) (lim .room) depth (parseOf Name) st (now (t .entry)) plain r (now (t .exit)) ⌝ }
+    ensures { λ r. ⌜ Does (now (s .entry)) (lim .depth) (lim .room) depth (parseOf Name) st (lent (now (t .entry)) (now (names .entry)) (now (types .entry))) plain r (lent (now (t .exit)) (now (names .exit)) (now (types .exit))) ⌝ }
 {
-    let g = name(s, t, st, lim, depth, true);
+    let g = name(s, t, names, types, st, lim, depth, true);
     let a = g.answer;
     match a {
         Answer::Node(n) => {
@@ -597,7 +900,7 @@ fn pname(s: &[u8], t: &mut [u32], st: State, lim: Limits, depth: u16) -> Got
             let v = i.value;
             match v {
                 Value::Is(index) => {
-                    let h = sym(s, t, i.state, lim, depth);
+                    let h = sym(s, t, names, types, i.state, lim, depth);
                     parsed(t, h, lim, n, index)
                 }
                 Value::Bad => refused(Refusal::Syntax, i.state),
@@ -608,15 +911,23 @@ fn pname(s: &[u8], t: &mut [u32], st: State, lim: Limits, depth: u16) -> Got
 }
 
 // parse behind `?$TSS`.
-fn pguard(s: &[u8], t: &mut [u32], st: State, lim: Limits, depth: u16) -> Got
+fn pguard(
+    s: &[u8],
+    t: &mut [u32],
+    names: &mut [u16; 10],
+    types: &mut [u16; 10],
+    st: Spot,
+    lim: Limits,
+    depth: u16,
+) -> Got
     requires { ⌜ length (now s) ≤ 4096 ⌝ }
-    ensures { λ r. ⌜ Does (now (s .entry)) (lim .depth) (lim .room) depth (parseOf Guard) st (now (t .entry)) plain r (now (t .exit)) ⌝ }
+    ensures { λ r. ⌜ Does (now (s .entry)) (lim .depth) (lim .room) depth (parseOf Guard) st (lent (now (t .entry)) (now (names .entry)) (now (types .entry))) plain r (lent (now (t .exit)) (now (names .exit)) (now (types .exit))) ⌝ }
 {
     let k = guard_number(s, st);
     let v = k.value;
     match v {
         Value::Is(number) => {
-            let g = oguard(s, t, k.state, lim, depth);
+            let g = oguard(s, t, names, types, k.state, lim, depth);
             let a = g.answer;
             match a {
                 Answer::Node(n) => {
@@ -631,11 +942,19 @@ fn pguard(s: &[u8], t: &mut [u32], st: State, lim: Limits, depth: u16) -> Got
 }
 
 // parse behind `?$`.
-fn ptmpl(s: &[u8], t: &mut [u32], st: State, lim: Limits, depth: u16) -> Got
+fn ptmpl(
+    s: &[u8],
+    t: &mut [u32],
+    names: &mut [u16; 10],
+    types: &mut [u16; 10],
+    st: Spot,
+    lim: Limits,
+    depth: u16,
+) -> Got
     requires { ⌜ length (now s) ≤ 4096 ⌝ }
-    ensures { λ r. ⌜ Does (now (s .entry)) (lim .depth) (lim .room) depth (parseOf Template) st (now (t .entry)) plain r (now (t .exit)) ⌝ }
+    ensures { λ r. ⌜ Does (now (s .entry)) (lim .depth) (lim .room) depth (parseOf Template) st (lent (now (t .entry)) (now (names .entry)) (now (types .entry))) plain r (lent (now (t .exit)) (now (names .exit)) (now (types .exit))) ⌝ }
 {
-    let g = otmpl(s, t, st, lim, depth);
+    let g = otmpl(s, t, names, types, st, lim, depth);
     let a = g.answer;
     match a {
         Answer::Node(n) => {
@@ -647,47 +966,71 @@ fn ptmpl(s: &[u8], t: &mut [u32], st: State, lim: Limits, depth: u16) -> Got
 }
 
 // The symbol of `?$`.
-fn otmpl(s: &[u8], t: &mut [u32], st: State, lim: Limits, depth: u16) -> Got
+fn otmpl(
+    s: &[u8],
+    t: &mut [u32],
+    names: &mut [u16; 10],
+    types: &mut [u16; 10],
+    st: Spot,
+    lim: Limits,
+    depth: u16,
+) -> Got
     requires { ⌜ length (now s) ≤ 4096 ⌝ }
-    ensures { λ r. ⌜ Reads (now (s .entry)) (lim .depth) (lim .room) depth OuterTemplate st (now (t .entry)) plain r (now (t .exit)) ⌝ }
+    ensures { λ r. ⌜ Reads (now (s .entry)) (lim .depth) (lim .room) depth OuterTemplate st (lent (now (t .entry)) (now (names .entry)) (now (types .entry))) plain r (lent (now (t .exit)) (now (names .exit)) (now (types .exit))) ⌝ }
 {
     if depth == 0 {
         return refused(Refusal::Deep, st);
     }
 
     let left = depth - 1;
-    let g = oname(s, t, opened(st, lim.depth, left), lim, left);
+    let g = oname(s, t, names, types, opened(st, lim.depth, left), lim, left);
     above(t, g, lim, 4, 0, 0)
 }
 
 // Its name.
-fn oname(s: &[u8], t: &mut [u32], st: State, lim: Limits, depth: u16) -> Got
+fn oname(
+    s: &[u8],
+    t: &mut [u32],
+    names: &mut [u16; 10],
+    types: &mut [u16; 10],
+    st: Spot,
+    lim: Limits,
+    depth: u16,
+) -> Got
     requires { ⌜ length (now s) ≤ 4096 ⌝ }
-    ensures { λ r. ⌜ Reads (now (s .entry)) (lim .depth) (lim .room) depth OuterName st (now (t .entry)) plain r (now (t .exit)) ⌝ }
+    ensures { λ r. ⌜ Reads (now (s .entry)) (lim .depth) (lim .room) depth OuterName st (lent (now (t .entry)) (now (names .entry)) (now (types .entry))) plain r (lent (now (t .exit)) (now (names .exit)) (now (types .exit))) ⌝ }
 {
     if depth == 0 {
         return refused(Refusal::Deep, st);
     }
 
     let left = depth - 1;
-    tmpl(s, t, opened(st, lim.depth, left), lim, left)
+    tmpl(s, t, names, types, opened(st, lim.depth, left), lim, left)
 }
 
 // The symbol of `?$TSS`.
-fn oguard(s: &[u8], t: &mut [u32], st: State, lim: Limits, depth: u16) -> Got
+fn oguard(
+    s: &[u8],
+    t: &mut [u32],
+    names: &mut [u16; 10],
+    types: &mut [u16; 10],
+    st: Spot,
+    lim: Limits,
+    depth: u16,
+) -> Got
     requires { ⌜ length (now s) ≤ 4096 ⌝ }
-    ensures { λ r. ⌜ Reads (now (s .entry)) (lim .depth) (lim .room) depth OuterGuard st (now (t .entry)) plain r (now (t .exit)) ⌝ }
+    ensures { λ r. ⌜ Reads (now (s .entry)) (lim .depth) (lim .room) depth OuterGuard st (lent (now (t .entry)) (now (names .entry)) (now (types .entry))) plain r (lent (now (t .exit)) (now (names .exit)) (now (types .exit))) ⌝ }
 {
     if depth == 0 {
         return refused(Refusal::Deep, st);
     }
 
     let left = depth - 1;
-    let g = nname(s, t, opened(st, lim.depth, left), lim, left);
+    let g = nname(s, t, names, types, opened(st, lim.depth, left), lim, left);
     let a = g.answer;
     match a {
         Answer::Node(n) => {
-            let l = scope(s, t, g.state, lim, left);
+            let l = scope(s, t, names, types, g.state, lim, left);
             over(t, l, lim, made(5, (n as u32) + 1, 0, 0, 0, 0, 0))
         }
         Answer::Refused(_) => g,
@@ -695,9 +1038,17 @@ fn oguard(s: &[u8], t: &mut [u32], st: State, lim: Limits, depth: u16) -> Got
 }
 
 // The symbol's own type.
-fn sym(s: &[u8], t: &mut [u32], st: State, lim: Limits, depth: u16) -> Got
+fn sym(
+    s: &[u8],
+    t: &mut [u32],
+    names: &mut [u16; 10],
+    types: &mut [u16; 10],
+    st: Spot,
+    lim: Limits,
+    depth: u16,
+) -> Got
     requires { ⌜ length (now s) ≤ 4096 ⌝ }
-    ensures { λ r. ⌜ Reads (now (s .entry)) (lim .depth) (lim .room) depth SymbolType st (now (t .entry)) plain r (now (t .exit)) ⌝ }
+    ensures { λ r. ⌜ Reads (now (s .entry)) (lim .depth) (lim .room) depth SymbolType st (lent (now (t .entry)) (now (names .entry)) (now (types .entry))) plain r (lent (now (t .exit)) (now (names .exit)) (now (types .exit))) ⌝ }
 {
     if depth == 0 {
         return refused(Refusal::Deep, st);
@@ -708,23 +1059,40 @@ fn sym(s: &[u8], t: &mut [u32], st: State, lim: Limits, depth: u16) -> Got
     let next = k.state;
     let f = k.shape;
     match f {
-        SymbolShape::Variable(kind) => var(s, t, next, lim, left, kind),
+        SymbolShape::Variable(kind) => var(s, t, names, types, next, lim, left, kind),
         SymbolShape::Table(kind, class) => {
-            let g = scope(s, t, next, lim, left);
+            let g = scope(s, t, names, types, next, lim, left);
             table_end(t, g, lim, kind, class)
         }
-        SymbolShape::Function(member) => tail(s, t, symbol_head(s, next, member), lim, left),
+        SymbolShape::Function(member) => tail(
+            s,
+            t,
+            names,
+            types,
+            symbol_head(s, next, member),
+            lim,
+            left,
+        ),
         SymbolShape::Leaf(kind, p, q) => shut_leaf(t, next, lim, kind, p, q),
         SymbolShape::Refused => refused(Refusal::Syntax, next),
     }
 }
 
 // A variable of a kind.
-fn var(s: &[u8], t: &mut [u32], st: State, lim: Limits, depth: u16, kind: u32) -> Got
+fn var(
+    s: &[u8],
+    t: &mut [u32],
+    names: &mut [u16; 10],
+    types: &mut [u16; 10],
+    st: Spot,
+    lim: Limits,
+    depth: u16,
+    kind: u32,
+) -> Got
     requires { ⌜ length (now s) ≤ 4096 ⌝ }
-    ensures { λ r. ⌜ Does (now (s .entry)) (lim .depth) (lim .room) depth (shapeSymbol (Variable kind)) st (now (t .entry)) plain r (now (t .exit)) ⌝ }
+    ensures { λ r. ⌜ Does (now (s .entry)) (lim .depth) (lim .room) depth (shapeSymbol (Variable kind)) st (lent (now (t .entry)) (now (names .entry)) (now (types .entry))) plain r (lent (now (t .exit)) (now (names .exit)) (now (types .exit))) ⌝ }
 {
-    let g = vtype(s, t, st, lim, depth, 0);
+    let g = vtype(s, t, names, types, st, lim, depth, 0);
     let a = g.answer;
     match a {
         Answer::Node(n) => {
@@ -764,14 +1132,32 @@ fn clear(t: &mut [u32], n: usize)
     }
 }
 
-fn begin() -> State
-    ensures { λ r. ⌜ r ≡ start ⌝ }
+fn begin() -> Spot
+    ensures { λ r. ⌜ r ≡ begun ⌝ }
 {
-    let m = empty_memo();
-    State {
+    Spot {
         at: 0,
         used: 0,
         deep: 0,
+        names_len: 0,
+        types_len: 0,
+    }
+}
+
+// The state with the memo in it.
+fn state_of(st: Spot, names: [u16; 10], types: [u16; 10]) -> State
+    ensures { λ r. ⌜ r ≡ full st (lent [] names types) ⌝ }
+{
+    let m = Memo {
+        names,
+        types,
+        names_len: st.names_len,
+        types_len: st.types_len,
+    };
+    State {
+        at: st.at,
+        used: st.used,
+        deep: st.deep,
         memo: m,
     }
 }
@@ -790,25 +1176,27 @@ pub fn read(s: &[u8], t: &mut [u32], limit: u16) -> Outcome
     ensures { λ _. ⌜ now (t .exit) ≡ tableLeft (now (s .entry)) limit (now (t .entry)) ⌝ }
 {
     let first = begin();
+    let mut names = [0u16; 10];
+    let mut types = [0u16; 10];
     if 4096 < s.len() {
         return Outcome {
             answer: Whole::Outside,
-            state: first,
+            state: state_of(first, names, types),
         };
     }
     if 200 < limit {
         return Outcome {
             answer: Whole::Outside,
-            state: first,
+            state: state_of(first, names, types),
         };
     }
     let lim = Limits {
         depth: limit,
         room: room_of(t),
     };
-    let g = parse(s, t, first, lim, limit);
+    let g = parse(s, t, &mut names, &mut types, first, lim, limit);
     let a = g.answer;
-    let end = g.state;
+    let end = state_of(g.state, names, types);
     match a {
         Answer::Node(n) => Outcome {
             answer: Whole::Root(n),

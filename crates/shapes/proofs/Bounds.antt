@@ -28,9 +28,9 @@ use Rattle.forms.specs.declared.begins.NameForm.the-variants as name
 use Rattle.forms.specs.declared.begins.NameStart.{NameStart}
 use Rattle.grammar.specs.Program.{Reply, found, refused, Out, out, run}
 use Rattle.grammar.specs.Words.{leafIs, leaf}
-use Rattle.grammar.specs.declared.State.{State}
 use Rattle.grammar.proofs.Leaves.{hex-fits, EncodedFits, encoded-fits}
-use Rattle.steps.specs.Does.{does, valued, Values}
+use Rattle.steps.specs.Does.{Lent, lent, full, does, valued, Values}
+use Rattle.steps.specs.declared.state.Spot.{Spot}
 use Rattle.steps.specs.declared.state.Value.{Value}
 use Rattle.steps.specs.declared.state.Value.the-variants.{Is}
 use Rattle.steps.specs.declared.state.Took.{Took}
@@ -48,15 +48,15 @@ abbrev isFound : Reply ℕ → ℕ
 isFound (found n) = 1
 isFound (refused why) = 0
 
-below-said : (s : List ℕ) (most x : ℕ) (l : Leaf) (st st′ : State) (t : List ℕ) → Below most l → out (found x) st′ t ≡ does s 0 0 0 (leafIs l) st t → x < most
+below-said : (s : List ℕ) (most x : ℕ) (l : Leaf) (st st′ : Spot) (t : Lent) → Below most l → out (found x) (full st′ t) (t .table) ≡ does s 0 0 0 (leafIs l) st t → x < most
 unfolding run
 below-said s most x (leafs.Value v n) st st′ t h e = let z : x ≡ v = ap (λ (o : Out ℕ (List ℕ)). numberOf (o .reply)) e in omega arith
 below-said s most x (leafs.Bad n) st st′ t h e = let z : _≡_ {A = ℕ} 1 0 = ap (λ (o : Out ℕ (List ℕ)). isFound (o .reply)) e in absurd (omega (arith, z))
 
-value-below : {s : List ℕ} (f : List ℕ → Leaf) (most : ℕ) → ((r : List ℕ) → Below most (f r)) → {st : State} {r : Took} {x : ℕ} → Values s (leaf f) st r → r .value ≡ Is x → x < most
+value-below : {s : List ℕ} (f : List ℕ → Leaf) (most : ℕ) → ((r : List ℕ) → Below most (f r)) → {st : Spot} {r : Took} {x : ℕ} → Values s (leaf f) st r → r .value ≡ Is x → x < most
 unfolding run
 value-below {s} f most small {st} {r} {x} v e =
-    below-said s most x (f (drop (st .at) s)) st (r .state) [] (small (drop (st .at) s)) (ap (λ (y : Value). out (valued y) (r .state) []) (sym e) ∙ v .is 0 0 0 [])
+    below-said s most x (f (drop (st .at) s)) st (r .state) (lent [] [] []) (small (drop (st .at) s)) (ap (λ (y : Value). out (valued y) (full (r .state) (lent [] [] [])) []) (sym e) ∙ v .is 0 0 0 (lent [] [] []))
 
 pick-below : (most : ℕ) (b : Bool) (x y : Leaf) → Below most x → Below most y → Below most (pick b x y)
 pick-below most true x y f g = f
@@ -74,10 +74,10 @@ index-below : (r : List ℕ) → Below (2 ^ 31) (readUnsigned r)
 unfolding readUnsigned
 index-below r = unsigned-below (readNumber r)
 
-pub width-small : {s : List ℕ} {st : State} {r : Took} {x : ℕ} → Values s (leaf readStringWidth) st r → r .value ≡ Is x → x < 256
+pub width-small : {s : List ℕ} {st : Spot} {r : Took} {x : ℕ} → Values s (leaf readStringWidth) st r → r .value ≡ Is x → x < 256
 width-small = value-below readStringWidth 256 width-below
 
-pub index-small : {s : List ℕ} {st : State} {r : Took} {x : ℕ} → Values s (leaf readUnsigned) st r → r .value ≡ Is x → x < 2147483648
+pub index-small : {s : List ℕ} {st : Spot} {r : Took} {x : ℕ} → Values s (leaf readUnsigned) st r → r .value ≡ Is x → x < 2147483648
 index-small = value-below readUnsigned 2147483648 index-below
 
 -- what is begun with is there

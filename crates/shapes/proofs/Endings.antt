@@ -13,8 +13,8 @@ use Rattle.grammar.specs.Words.{leaf, unsigned, memorizeName}
 use Rattle.node.specs.Kind.{Operator}
 use Rattle.grammar.specs.Table.{laid}
 use Rattle.grammar.specs.Grammar.{Reading, close, rttiTypeDescriptor, rttiBaseClassDescriptor, isGuard, indexAndOne, guardIndex}
-use Rattle.grammar.specs.declared.State.{State}
-use Rattle.steps.specs.Does.{does, Values, Leads}
+use Rattle.steps.specs.Does.{runs, does, Values, Leads}
+use Rattle.steps.specs.declared.state.Spot.{Spot}
 use Rattle.steps.specs.declared.state.Value.the-variants.{Is, Bad}
 use Rattle.steps.specs.declared.state.Took.{Took}
 use Rattle.steps.proofs.Laws.{ends}
@@ -36,24 +36,24 @@ module _ {s : List ℕ} where
   pub alike-unstored : {kd p q : ℕ} {numbers : List ℕ} → laid kd 0 numbers [] ≡ laid kd 0 (p ∷ q ∷ []) [] → Alike s (node kd numbers [] ret) (leafName kd p q false)
   unfolding run
   alike-unstored {kd} {p} {q} {numbers} e =
-      record { is = λ limit room d st t. alike-node {s = s} {kd = kd} {numbers = numbers} {numbers′ = p ∷ q ∷ []} {refs = []} {refs′ = []} e refl refl .is limit room d st t ∙ sym (ends (does s limit room d (node kd (p ∷ q ∷ []) [] ret) st t)) }
+      record { is = λ limit room d st t. alike-node {s = s} {kd = kd} {numbers = numbers} {numbers′ = p ∷ q ∷ []} {refs = []} {refs′ = []} e refl refl .is limit room d st t ∙ sym (ends (runs s limit room d (node kd (p ∷ q ∷ []) [] ret) st t)) }
 
 -- what is behind an operator: two have operands
 abbrev behind : ℕ → Reading (ℕ × Bool)
 behind op = sub (when (eqb op 75) rttiTypeDescriptor (when (eqb op 76) rttiBaseClassDescriptor (close Operator (op ∷ []) []))) (λ n. ret {A = ℕ × Bool} (n, isGuard op))
 
-module _ {s : List ℕ} {st st′ : State} {q : Reading (ℕ × Bool)} where
+module _ {s : List ℕ} {st st′ : Spot} {q : Reading (ℕ × Bool)} where
   pub behind-type : {op : ℕ} → op ≡ 75 → Leads s (unguarded rttiTypeDescriptor) st q st′ → Leads s (behind op) st q st′
   behind-type e a = rw e (leads-on (leads-sub (leads-when refl leads-refl)) a)
 
   pub behind-base : {op : ℕ} → op ≡ 76 → Leads s (unguarded rttiBaseClassDescriptor) st q st′ → Leads s (behind op) st q st′
   behind-base e a = rw e (leads-on (leads-sub (leads-else refl (leads-when refl leads-refl))) a)
 
-pub behind-other : {s : List ℕ} {st : State} {op : ℕ} → (op ≡ 75 → ⊥) → (op ≡ 76 → ⊥) → Leads s (behind op) st (shapeSpecial (special.Operator op)) st
+pub behind-other : {s : List ℕ} {st : Spot} {op : ℕ} → (op ≡ 75 → ⊥) → (op ≡ 76 → ⊥) → Leads s (behind op) st (shapeSpecial (special.Operator op)) st
 behind-other {op = op} e f = leads-sub (leads-else (ne-eqb op 75 e) (leads-else (ne-eqb op 76 f) leads-refl))
 
 -- a guard's index
-module _ {s : List ℕ} {st : State} where
+module _ {s : List ℕ} {st : Spot} where
   pub index-none : {r : Took} → length s ≤ st .at → r ≡ record { value = Is 0; state = st } → Values s indexAndOne st r
   unfolding run indexAndOne
   index-none h e = record { is = λ limit room d t. rw (le-leb (length s) (st .at) h, e) }

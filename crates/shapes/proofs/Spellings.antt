@@ -13,12 +13,12 @@ use Rattle.forms.specs.declared.types.TypeForm.the-variants as form
 use Rattle.forms.specs.declared.types.TypeStart.{TypeStart}
 use Rattle.forms.specs.declared.types.TypeLetter.the-variants as letter
 use Rattle.forms.specs.declared.types.TypeHead.{TypeHead}
-use Rattle.grammar.specs.Program.{run, at+}
+use Rattle.grammar.specs.Program.{run}
 use Rattle.grammar.specs.Table.{sameTable, shutTable, readTable}
 use Rattle.grammar.specs.Grammar.{body, letterType, noLetter, plainType, formType, varTypeBody}
-use Rattle.grammar.specs.declared.State.{State}
 use Rattle.grammar.proofs.Ordered.{no-bytes}
-use Rattle.steps.specs.Does.{does, Leads}
+use Rattle.steps.specs.Does.{full, Lent, further, does, Leads}
+use Rattle.steps.specs.declared.state.Spot.{Spot}
 use Rattle.steps.proofs.Leads.{leads-ordered}
 use Rattle.shapes.specs.Shapes.{basicOf}
 
@@ -63,22 +63,22 @@ head-small r e = rw e (small-head r)
 
 -- the productions go on by what was chosen
 none-refused :
-    (s : List ℕ) (sc : ℕ) (st : State) (limit room d : ℕ) (t : List ℕ) →
-    does s limit room d noLetter st t ≡ does s limit room d (letterType sc letter.Refused) (at+ (upTo (pick (starts (bytes "_") (drop (st .at) s)) 2 1) (drop (st .at) s)) st) t
+    (s : List ℕ) (sc : ℕ) (st : Spot) (limit room d : ℕ) (t : Lent) →
+    does s limit room d noLetter st t ≡ does s limit room d (letterType sc letter.Refused) (further (upTo (pick (starts (bytes "_") (drop (st .at) s)) 2 1) (drop (st .at) s)) st) t
 unfolding run letterType
 none-refused s sc st limit room d t = refl
 
-pub leads-letter : {s : List ℕ} (sc : ℕ) {h : TypeHead} {st : State} → h ≡ typeLetter (drop (st .at) s) → Leads s (plainType sc) st (letterType sc (h .letter)) (at+ (h .taken) st)
+pub leads-letter : {s : List ℕ} (sc : ℕ) {h : TypeHead} {st : Spot} → h ≡ typeLetter (drop (st .at) s) → Leads s (plainType sc) st (letterType sc (h .letter)) (further (h .taken) st)
 unfolding plainType typeLetter
 leads-letter {s} sc {h} {st} e =
     leads-ordered head (λ (h : TypeHead). h .letter) (λ (h : TypeHead). h .taken) (λ x n. (refl, refl)) (letterType sc) typeLetters noLetter
     (head letter.Refused (upTo (pick (starts (bytes "_") (drop (st .at) s)) 2 1) (drop (st .at) s))) e (λ limit room d t c. none-refused s sc st limit room d t)
 
-none-plain : (s : List ℕ) (sc : ℕ) (st : State) (limit room d : ℕ) (t : List ℕ) → does s limit room d (plainType sc) st t ≡ does s limit room d (formType sc form.Plain) (at+ 0 st) t
+none-plain : (s : List ℕ) (sc : ℕ) (st : Spot) (limit room d : ℕ) (t : Lent) → does s limit room d (plainType sc) st t ≡ does s limit room d (formType sc form.Plain) (further 0 st) t
 unfolding formType
-none-plain s sc st limit room d t = no-bytes s (sameTable s) (shutTable limit room) (readTable body s limit room d) (plainType sc) st t
+none-plain s sc st limit room d t = no-bytes s (sameTable s) (shutTable limit room) (readTable body s limit room d) (plainType sc) (full st t) (t .table)
 
-pub leads-form : {s : List ℕ} (sc : ℕ) {b : TypeStart} {st : State} → b ≡ typeStart (drop (st .at) s) → Leads s (varTypeBody sc) st (formType sc (b .form)) (at+ (b .taken) st)
+pub leads-form : {s : List ℕ} (sc : ℕ) {b : TypeStart} {st : Spot} → b ≡ typeStart (drop (st .at) s) → Leads s (varTypeBody sc) st (formType sc (b .form)) (further (b .taken) st)
 unfolding varTypeBody typeStart
 leads-form {s} sc {b} {st} e =
     leads-ordered start (λ (b : TypeStart). b .form) (λ (b : TypeStart). b .taken) (λ x n. (refl, refl)) (formType sc) typeForms (plainType sc) (start form.Plain 0) e (λ limit room d t c. none-plain s sc st limit room d t)

@@ -14,9 +14,9 @@ use Rattle.grammar.specs.Words.{leaf, class}
 use Rattle.node.specs.Kind.{MemberFunction, NonMemberFunction}
 use Rattle.grammar.specs.Table.{laid}
 use Rattle.grammar.specs.Grammar.{Reading, close, to, varType, funcReturnType, funcParams, plainFunction}
-use Rattle.grammar.specs.declared.State.{State}
 use Rattle.grammar.specs.declared.Refusal.the-variants.{Syntax}
-use Rattle.steps.specs.Does.{plain, refusedAt, Does, Classes, Leads}
+use Rattle.steps.specs.Does.{Lent, lent, plain, refusedAt, Does, Classes, Leads}
+use Rattle.steps.specs.declared.state.Spot.{Spot}
 use Rattle.steps.specs.declared.state.Got.{Got}
 use Rattle.steps.specs.declared.state.Classed.{Classed}
 use Rattle.steps.proofs.Laws.{does-fail}
@@ -27,10 +27,10 @@ use Rattle.shapes.specs.declared.heads.Headed.{Headed}
 use Rattle.shapes.specs.declared.heads.Signature.{Signature}
 
 module _ {s : List ℕ} {limit room d : ℕ} where
-  pub head-good : (h : Headed) {st : State} {t t′ : List ℕ} {g : Got} → h .good ≡ true → Does s limit room d (tailOf (h .signature)) st t plain g t′ → Does s limit room d (headed h) st t plain g t′
+  pub head-good : (h : Headed) {st : Spot} {t t′ : Lent} {g : Got} → h .good ≡ true → Does s limit room d (tailOf (h .signature)) st t plain g t′ → Does s limit room d (headed h) st t plain g t′
   head-good h e r = does-as (ap (λ (b : Bool). tailIf b (h .signature)) e) r
 
-  pub head-bad : (h : Headed) {st : State} {t : List ℕ} {g : Got} → h .good ≡ false → g ≡ refusedAt Syntax st → Does s limit room d (headed h) st t plain g t
+  pub head-bad : (h : Headed) {st : Spot} {t : Lent} {g : Got} → h .good ≡ false → g ≡ refusedAt Syntax st → Does s limit room d (headed h) st t plain g t
   head-bad h e f = does-as (ap (λ (b : Bool). tailIf b (h .signature)) e) (does-fail f)
 
 -- a return, the parameters, and a node of these numbers
@@ -41,7 +41,7 @@ pub tail-alike :
 tail-alike x numbers refs e h = alike-sub (λ t. alike-sub (λ l. alike-node (e t l) (h t l) refl))
 
 -- a convention and the class of a return, and then a tail
-pub convened : {s : List ℕ} {x y : Signature} {q : Reading ℕ} {st st′ : State} → x ≡ y → Leads s (conventions x) st q st′ → Leads s (conventions y) st q st′
+pub convened : {s : List ℕ} {x y : Signature} {q : Reading ℕ} {st st′ : Spot} → x ≡ y → Leads s (conventions x) st q st′ → Leads s (conventions y) st q st′
 convened {s} {q = q} {st = st} {st′ = st′} e a = subst (λ (x : Signature). Leads s (conventions x) st q st′) e a
 
 pub plain-alike : {s : List ℕ} → Alike s plainFunction (conventions (signed 20 0 0 0 0 0 false))
@@ -59,7 +59,7 @@ pub member-alike :
 member-alike sc funcClass = alike-sub (λ conv. alike-sub (λ returnSc. tail-alike (signed 18 sc conv funcClass 0 returnSc true) (sc ∷ conv ∷ funcClass ∷ []) (λ t l. to t ∷ l ∷ []) (λ t l. refl) (λ t l. refl)))
 
 -- the bits of letters behind what a program goes on by
-pub classes-leads : {s : List ℕ} {p q : Reading ℕ} {st st′ : State} {r : Classed} → Leads s p st q st′ → Classes s q st′ r → Classes s p st r
+pub classes-leads : {s : List ℕ} {p q : Reading ℕ} {st st′ : Spot} {r : Classed} → Leads s p st q st′ → Classes s q st′ r → Classes s p st r
 classes-leads a c = record { is = λ limit room d t. c .is limit room d t ∙ sym (a .is limit room d t) }
 
 -- the bits of a qualifier are few
@@ -67,9 +67,9 @@ bits-said : Reply ℕ → ℕ
 bits-said (found n) = n
 bits-said (refused why) = 0
 
-class-says : {s : List ℕ} (f : List ℕ → Class) {st : State} {r : Classed} → Classes s (class f) st r → r .bits ≡ f (drop (st .at) s) .bits
+class-says : {s : List ℕ} (f : List ℕ → Class) {st : Spot} {r : Classed} → Classes s (class f) st r → r .bits ≡ f (drop (st .at) s) .bits
 unfolding run bits-said
-class-says f q = ap (λ (o : Out ℕ (List ℕ)). bits-said (o .reply)) (q .is 0 0 0 [])
+class-says f q = ap (λ (o : Out ℕ (List ℕ)). bits-said (o .reply)) (q .is 0 0 0 (lent [] [] []))
 
-pub qualifier-small : {s : List ℕ} {st : State} {r : Classed} → Classes s (class readQualifier) st r → r .bits ≤ 12
+pub qualifier-small : {s : List ℕ} {st : Spot} {r : Classed} → Classes s (class readQualifier) st r → r .bits ≤ 12
 qualifier-small {s} {st} q = rw (class-says readQualifier q) (sized-qualifier .bound (drop (st .at) s))

@@ -15,7 +15,7 @@ use Rattle.grammar.specs.Program.{ret, fail, when, part, sub, node}
 use Rattle.grammar.specs.Words.{_>>=_, _>>_, _⇒_∥_, expect, leaf, class, memorizeName, nameOf, number}
 use Rattle.node.specs.Kind.{RttiTypeDescriptor, RttiBaseClassDescriptor, Operator, ParsedName, NonMemberFunction, VCallThunk, Var}
 use Rattle.grammar.specs.Grammar.{Reading, Parse, Func, close, to, name′, varType, pointee, array, memberFunctionPointer, funcType, funcReturnType, funcParams, memberFunction, plainFunction, scope, templateName, nestedOf, specialName, isGuard}
-use Rattle.grammar.specs.declared.State.{State}
+use Rattle.steps.specs.declared.state.Spot.{Spot}
 use Rattle.ends.specs.Ends.{leafName, storedUnless}
 use Rattle.shapes.specs.declared.types.Shape.{Shape}
 use Rattle.shapes.specs.declared.types.Shape.the-variants as types
@@ -83,10 +83,10 @@ tailOf x = do
   l ← funcParams
   node (x .kind) (x .class ∷ x .convention ∷ x .«func_class» ∷ []) (to t ∷ l ∷ x .third ∷ []) ret
 
-abbrev pub headedAt : Signature → State → Headed
+abbrev pub headedAt : Signature → Spot → Headed
 headedAt x st = record { good = true; signature = x; state = st }
 
-abbrev pub refusedHead : State → Headed
+abbrev pub refusedHead : Spot → Headed
 refusedHead st = record { good = false; signature = signed 0 0 0 0 0 0 false; state = st }
 
 abbrev pub tailIf : Bool → Signature → Reading ℕ

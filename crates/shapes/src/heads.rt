@@ -6,7 +6,6 @@ ghost use Rattle.grammar.specs.Grammar.{funcType, memberFunction, plainFunction
 ghost use Rattle.shapes.specs.declared.symbols.SymbolShape.the-variants.{Function};
 ghost use Rattle.steps.specs.Does.{Classes, Leads};
 ghost use Rattle.shapes.specs.Shapes.{shapeSymbol, signed, headed, headedAt, refusedHead, conventions, functionRest, variableClass, ptr64Class};
-use grammar::State;
 use steps::leaves::calling_conv;
 use steps::leaves::expect;
 use steps::leaves::func_class;
@@ -15,6 +14,7 @@ use steps::leaves::qualifier;
 use steps::leaves::return_class;
 use steps::leaves::storage_class;
 use steps::state::Classed;
+use steps::state::Spot;
 use steps::state::Value;
 
 // The node's kind and numbers, its third reference, the class of the return, and whether a structor's `@` may stand for it.
@@ -31,7 +31,7 @@ pub struct Signature {
 pub struct Headed {
     pub good: bool,
     pub signature: Signature,
-    pub state: State,
+    pub state: Spot,
 }
 
 fn signature_of(
@@ -56,7 +56,7 @@ fn signature_of(
     }
 }
 
-fn headed_at(x: Signature, st: State) -> Headed
+fn headed_at(x: Signature, st: Spot) -> Headed
     ensures { λ r. ⌜ r ≡ headedAt x st ⌝ }
 {
     Headed {
@@ -66,7 +66,7 @@ fn headed_at(x: Signature, st: State) -> Headed
     }
 }
 
-fn bad(st: State) -> Headed
+fn bad(st: Spot) -> Headed
     ensures { λ r. ⌜ r ≡ refusedHead st ⌝ }
 {
     Headed {
@@ -77,7 +77,7 @@ fn bad(st: State) -> Headed
 }
 
 // A convention and the class of the return, into a signature that lacks them.
-fn conventions(s: &[u8], st: State, x: Signature) -> Headed
+fn conventions(s: &[u8], st: Spot, x: Signature) -> Headed
     requires { ⌜ length (now s) ≤ 4096 ⌝ }
     ensures { λ r. ⌜ Leads (now (s .entry)) (conventions x) st (headed r) (r .state) ⌝ }
 {
@@ -108,7 +108,7 @@ fn conventions(s: &[u8], st: State, x: Signature) -> Headed
 }
 
 // `?` and a class, or nothing.
-fn variable_class(s: &[u8], st: State) -> Classed
+fn variable_class(s: &[u8], st: Spot) -> Classed
     requires { ⌜ length (now s) ≤ 4096 ⌝ }
     ensures { λ r. ⌜ Classes (now (s .entry)) variableClass st r ⌝ }
 {
@@ -121,7 +121,7 @@ fn variable_class(s: &[u8], st: State) -> Classed
 }
 
 // read_func_type, behind its qualifiers.
-fn function_rest(s: &[u8], st: State, class: u32) -> Headed
+fn function_rest(s: &[u8], st: Spot, class: u32) -> Headed
     requires { ⌜ length (now s) ≤ 4096 ⌝ }
     ensures { λ r. ⌜ Leads (now (s .entry)) (functionRest class) st (headed r) (r .state) ⌝ }
 {
@@ -137,7 +137,7 @@ fn function_rest(s: &[u8], st: State, class: u32) -> Headed
 }
 
 // read_func_type
-pub fn function_head(s: &[u8], st: State, qualifiers: bool) -> Headed
+pub fn function_head(s: &[u8], st: Spot, qualifiers: bool) -> Headed
     requires { ⌜ length (now s) ≤ 4096 ⌝ }
     ensures { λ r. ⌜ Leads (now (s .entry)) (funcType qualifiers) st (headed r) (r .state) ⌝ }
 {
@@ -149,7 +149,7 @@ pub fn function_head(s: &[u8], st: State, qualifiers: bool) -> Headed
 }
 
 // A function that is no member.
-fn plain_head(s: &[u8], st: State) -> Headed
+fn plain_head(s: &[u8], st: Spot) -> Headed
     requires { ⌜ length (now s) ≤ 4096 ⌝ }
     ensures { λ r. ⌜ Leads (now (s .entry)) plainFunction st (headed r) (r .state) ⌝ }
 {
@@ -163,7 +163,7 @@ fn is_static(class: u32) -> bool
 }
 
 // A member function: a static one has no qualifiers.
-fn member_head(s: &[u8], st: State) -> Headed
+fn member_head(s: &[u8], st: Spot) -> Headed
     requires { ⌜ length (now s) ≤ 4096 ⌝ }
     ensures { λ r. ⌜ Leads (now (s .entry)) memberFunction st (headed r) (r .state) ⌝ }
 {
@@ -182,7 +182,7 @@ fn member_head(s: &[u8], st: State) -> Headed
 }
 
 // The type of a symbol that is a function, a member or not.
-pub fn symbol_head(s: &[u8], st: State, member: bool) -> Headed
+pub fn symbol_head(s: &[u8], st: Spot, member: bool) -> Headed
     requires { ⌜ length (now s) ≤ 4096 ⌝ }
     ensures { λ r. ⌜ Leads (now (s .entry)) (shapeSymbol (Function member)) st (headed r) (r .state) ⌝ }
 {
@@ -194,7 +194,7 @@ pub fn symbol_head(s: &[u8], st: State, member: bool) -> Headed
 }
 
 // `E`, or nothing.
-fn ptr64(s: &[u8], st: State) -> Classed
+fn ptr64(s: &[u8], st: Spot) -> Classed
     requires { ⌜ length (now s) ≤ 4096 ⌝ }
     ensures { λ r. ⌜ Classes (now (s .entry)) ptr64Class st r ⌝ }
     ensures { λ r. ⌜ r .bits ≤ 64 ⌝ }
@@ -212,7 +212,7 @@ fn ptr64(s: &[u8], st: State) -> Classed
 }
 
 // A pointer to a member function, behind its name: a qualifier and no function class, or the other way round.
-pub fn pointer_head(s: &[u8], st: State, name: u16, qualifiers: bool) -> Headed
+pub fn pointer_head(s: &[u8], st: Spot, name: u16, qualifiers: bool) -> Headed
     requires { ⌜ length (now s) ≤ 4096 ⌝ }
     ensures { λ r. ⌜ Leads (now (s .entry)) (memberPointer qualifiers name) st (headed r) (r .state) ⌝ }
 {

@@ -8,12 +8,12 @@ ghost use Rattle.forms.specs.declared.begins.NameForm.the-variants.{AnonymousId
 ghost use Rattle.steps.specs.Does.{Leads};
 ghost use Rattle.shapes.specs.Shapes.{shapeUnqualified, shapeName, nameFormOf, shapeSpecial, unguarded, baseEnd};
 use forms::begins::NameForm;
-use grammar::State;
 use steps::leaves::expect;
 use steps::leaves::number;
 use steps::leaves::operator;
 use steps::leaves::storage_class;
 use steps::leaves::string;
+use steps::state::Spot;
 use steps::state::Value;
 use steps::state::past;
 
@@ -30,10 +30,10 @@ pub enum NameShape {
 
 pub struct NameShaped {
     pub shape: NameShape,
-    pub state: State,
+    pub state: Spot,
 }
 
-fn shaped(shape: NameShape, st: State) -> NameShaped
+fn shaped(shape: NameShape, st: Spot) -> NameShaped
     ensures { λ r. ⌜ r ≡ record { shape = shape; state = st } ⌝ }
 {
     NameShaped { shape, state: st }
@@ -47,7 +47,7 @@ fn less_one(n: u32) -> u32
 }
 
 // A plain name.
-fn plain_shape(s: &[u8], st: State) -> NameShaped
+fn plain_shape(s: &[u8], st: Spot) -> NameShaped
     requires { ⌜ length (now s) ≤ 4096 ⌝ }
     ensures { λ r. ⌜ Leads (now (s .entry)) plainName st (shapeName (r .shape)) (r .state) ⌝ }
 {
@@ -62,7 +62,7 @@ fn plain_shape(s: &[u8], st: State) -> NameShaped
     }
 }
 
-fn anonymous_id(s: &[u8], st: State) -> NameShaped
+fn anonymous_id(s: &[u8], st: Spot) -> NameShaped
     requires { ⌜ length (now s) ≤ 4096 ⌝ }
     ensures { λ r. ⌜ Leads (now (s .entry)) (nestedOf AnonymousId) st (shapeName (r .shape)) (r .state) ⌝ }
 {
@@ -78,7 +78,7 @@ fn anonymous_id(s: &[u8], st: State) -> NameShaped
     }
 }
 
-fn anonymous(s: &[u8], st: State) -> NameShaped
+fn anonymous(s: &[u8], st: Spot) -> NameShaped
     requires { ⌜ length (now s) ≤ 4096 ⌝ }
     ensures { λ r. ⌜ Leads (now (s .entry)) (nestedOf Anonymous) st (shapeName (r .shape)) (r .state) ⌝ }
 {
@@ -90,7 +90,7 @@ fn anonymous(s: &[u8], st: State) -> NameShaped
     }
 }
 
-fn interface(s: &[u8], st: State) -> NameShaped
+fn interface(s: &[u8], st: Spot) -> NameShaped
     requires { ⌜ length (now s) ≤ 4096 ⌝ }
     ensures { λ r. ⌜ Leads (now (s .entry)) (nestedOf Interface) st (shapeName (r .shape)) (r .state) ⌝ }
 {
@@ -112,7 +112,7 @@ fn interface(s: &[u8], st: State) -> NameShaped
     }
 }
 
-fn discriminator(s: &[u8], st: State) -> NameShaped
+fn discriminator(s: &[u8], st: Spot) -> NameShaped
     requires { ⌜ length (now s) ≤ 4096 ⌝ }
     ensures { λ r. ⌜ Leads (now (s .entry)) (nestedOf Discriminator) st (shapeName (r .shape)) (r .state) ⌝ }
 {
@@ -124,7 +124,7 @@ fn discriminator(s: &[u8], st: State) -> NameShaped
     }
 }
 
-fn form_shape(s: &[u8], st: State, f: NameForm) -> NameShaped
+fn form_shape(s: &[u8], st: Spot, f: NameForm) -> NameShaped
     requires { ⌜ length (now s) ≤ 4096 ⌝ }
     ensures { λ r. ⌜ Leads (now (s .entry)) (nameFormOf f) st (shapeName (r .shape)) (r .state) ⌝ }
 {
@@ -141,7 +141,7 @@ fn form_shape(s: &[u8], st: State, f: NameForm) -> NameShaped
 }
 
 // read_nested_name, up to its first part.
-pub fn name_shape(s: &[u8], st: State) -> NameShaped
+pub fn name_shape(s: &[u8], st: Spot) -> NameShaped
     requires { ⌜ length (now s) ≤ 4096 ⌝ }
     ensures { λ r. ⌜ Leads (now (s .entry)) nestedBody st (shapeName (r .shape)) (r .state) ⌝ }
 {
@@ -160,16 +160,16 @@ pub enum SpecialShape {
 
 pub struct SpecialShaped {
     pub shape: SpecialShape,
-    pub state: State,
+    pub state: Spot,
 }
 
-fn special(shape: SpecialShape, st: State) -> SpecialShaped
+fn special(shape: SpecialShape, st: Spot) -> SpecialShaped
     ensures { λ r. ⌜ r ≡ record { shape = shape; state = st } ⌝ }
 {
     SpecialShaped { shape, state: st }
 }
 
-fn type_descriptor(s: &[u8], st: State) -> SpecialShaped
+fn type_descriptor(s: &[u8], st: Spot) -> SpecialShaped
     requires { ⌜ length (now s) ≤ 4096 ⌝ }
     ensures { λ r. ⌜ Leads (now (s .entry)) (unguarded rttiTypeDescriptor) st (shapeSpecial (r .shape)) (r .state) ⌝ }
 {
@@ -185,7 +185,7 @@ fn type_descriptor(s: &[u8], st: State) -> SpecialShaped
 }
 
 // The last two numbers of a base class's descriptor.
-fn base_end(s: &[u8], st: State, p: u32, q: u32) -> SpecialShaped
+fn base_end(s: &[u8], st: Spot, p: u32, q: u32) -> SpecialShaped
     requires { ⌜ length (now s) ≤ 4096 ⌝ }
     ensures { λ r. ⌜ Leads (now (s .entry)) (unguarded (baseEnd p q)) st (shapeSpecial (r .shape)) (r .state) ⌝ }
 {
@@ -204,7 +204,7 @@ fn base_end(s: &[u8], st: State, p: u32, q: u32) -> SpecialShaped
     }
 }
 
-fn base_descriptor(s: &[u8], st: State) -> SpecialShaped
+fn base_descriptor(s: &[u8], st: Spot) -> SpecialShaped
     requires { ⌜ length (now s) ≤ 4096 ⌝ }
     ensures { λ r. ⌜ Leads (now (s .entry)) (unguarded rttiBaseClassDescriptor) st (shapeSpecial (r .shape)) (r .state) ⌝ }
 {
@@ -224,7 +224,7 @@ fn base_descriptor(s: &[u8], st: State) -> SpecialShaped
 }
 
 // read_special_name, up to its first part.
-pub fn special_shape(s: &[u8], st: State) -> SpecialShaped
+pub fn special_shape(s: &[u8], st: Spot) -> SpecialShaped
     requires { ⌜ length (now s) ≤ 4096 ⌝ }
     ensures { λ r. ⌜ Leads (now (s .entry)) specialName st (shapeSpecial (r .shape)) (r .state) ⌝ }
 {
@@ -254,16 +254,16 @@ pub enum UnqualifiedShape {
 
 pub struct UnqualifiedShaped {
     pub shape: UnqualifiedShape,
-    pub state: State,
+    pub state: Spot,
 }
 
-fn unqualified(shape: UnqualifiedShape, st: State) -> UnqualifiedShaped
+fn unqualified(shape: UnqualifiedShape, st: Spot) -> UnqualifiedShaped
     ensures { λ r. ⌜ r ≡ record { shape = shape; state = st } ⌝ }
 {
     UnqualifiedShaped { shape, state: st }
 }
 
-fn unqualified_plain(s: &[u8], st: State) -> UnqualifiedShaped
+fn unqualified_plain(s: &[u8], st: Spot) -> UnqualifiedShaped
     requires { ⌜ length (now s) ≤ 4096 ⌝ }
     ensures { λ r. ⌜ ((function : Bool) → Leads (now (s .entry)) (unguarded plainName) st (shapeUnqualified function (r .shape)) (r .state)) ⌝ }
 {
@@ -276,7 +276,7 @@ fn unqualified_plain(s: &[u8], st: State) -> UnqualifiedShaped
 }
 
 // read_unqualified_name, up to its first part.
-pub fn unqualified_shape(s: &[u8], st: State) -> UnqualifiedShaped
+pub fn unqualified_shape(s: &[u8], st: Spot) -> UnqualifiedShaped
     requires { ⌜ length (now s) ≤ 4096 ⌝ }
     ensures { λ r. ⌜ ((function : Bool) → Leads (now (s .entry)) (unqualifiedBody function) st (shapeUnqualified function (r .shape)) (r .state)) ⌝ }
 {

@@ -12,7 +12,6 @@ ghost use Rattle.steps.specs.Does.{Values, Leads};
 ghost use Rattle.shapes.specs.Shapes.{shapeSymbol, tableOf, thunkEnd};
 use forms::begins::ParseForm;
 use forms::begins::SymbolForm;
-use grammar::State;
 use steps::leaves::calling_conv;
 use steps::leaves::expect;
 use steps::leaves::guard_marker;
@@ -20,6 +19,7 @@ use steps::leaves::number;
 use steps::leaves::qualifier;
 use steps::leaves::string_width;
 use steps::leaves::unsigned;
+use steps::state::Spot;
 use steps::state::Took;
 use steps::state::Value;
 use steps::state::past;
@@ -39,16 +39,16 @@ pub enum SymbolShape {
 
 pub struct SymbolShaped {
     pub shape: SymbolShape,
-    pub state: State,
+    pub state: Spot,
 }
 
-fn shaped(shape: SymbolShape, st: State) -> SymbolShaped
+fn shaped(shape: SymbolShape, st: Spot) -> SymbolShaped
     ensures { λ r. ⌜ r ≡ record { shape = shape; state = st } ⌝ }
 {
     SymbolShaped { shape, state: st }
 }
 
-fn table(s: &[u8], st: State, kind: u32) -> SymbolShaped
+fn table(s: &[u8], st: Spot, kind: u32) -> SymbolShaped
     requires { ⌜ length (now s) ≤ 4096 ⌝ }
     ensures { λ r. ⌜ Leads (now (s .entry)) (tableOf kind) st (shapeSymbol (r .shape)) (r .state) ⌝ }
 {
@@ -57,7 +57,7 @@ fn table(s: &[u8], st: State, kind: u32) -> SymbolShaped
 }
 
 // An encoded string of a width: the node has the range of its characters.
-fn characters(s: &[u8], st: State, width: u32) -> SymbolShaped
+fn characters(s: &[u8], st: Spot, width: u32) -> SymbolShaped
     requires { ⌜ length (now s) ≤ 4096 ⌝ }
     requires { ⌜ width < 256 ⌝ }
     ensures { λ r. ⌜ Leads (now (s .entry)) (encodedString width) st (shapeSymbol (r .shape)) (r .state) ⌝ }
@@ -76,7 +76,7 @@ fn characters(s: &[u8], st: State, width: u32) -> SymbolShaped
     }
 }
 
-fn string(s: &[u8], st: State) -> SymbolShaped
+fn string(s: &[u8], st: Spot) -> SymbolShaped
     requires { ⌜ length (now s) ≤ 4096 ⌝ }
     ensures { λ r. ⌜ Leads (now (s .entry)) (symbolTypeOf String) st (shapeSymbol (r .shape)) (r .state) ⌝ }
 {
@@ -89,7 +89,7 @@ fn string(s: &[u8], st: State) -> SymbolShaped
 }
 
 // A thunk, behind `$B` and its offset.
-fn thunk_end(s: &[u8], st: State, offset: u32) -> SymbolShaped
+fn thunk_end(s: &[u8], st: Spot, offset: u32) -> SymbolShaped
     requires { ⌜ length (now s) ≤ 4096 ⌝ }
     ensures { λ r. ⌜ Leads (now (s .entry)) (thunkEnd offset) st (shapeSymbol (r .shape)) (r .state) ⌝ }
 {
@@ -108,7 +108,7 @@ fn thunk_end(s: &[u8], st: State, offset: u32) -> SymbolShaped
     }
 }
 
-fn thunk(s: &[u8], st: State) -> SymbolShaped
+fn thunk(s: &[u8], st: Spot) -> SymbolShaped
     requires { ⌜ length (now s) ≤ 4096 ⌝ }
     ensures { λ r. ⌜ Leads (now (s .entry)) (symbolTypeOf VCallThunk) st (shapeSymbol (r .shape)) (r .state) ⌝ }
 {
@@ -127,7 +127,7 @@ fn thunk(s: &[u8], st: State) -> SymbolShaped
     }
 }
 
-fn form_shape(s: &[u8], st: State, f: SymbolForm) -> SymbolShaped
+fn form_shape(s: &[u8], st: Spot, f: SymbolForm) -> SymbolShaped
     requires { ⌜ length (now s) ≤ 4096 ⌝ }
     ensures { λ r. ⌜ Leads (now (s .entry)) (symbolTypeOf f) st (shapeSymbol (r .shape)) (r .state) ⌝ }
 {
@@ -146,7 +146,7 @@ fn form_shape(s: &[u8], st: State, f: SymbolForm) -> SymbolShaped
 }
 
 // The symbol's own type, up to its first part.
-pub fn symbol_shape(s: &[u8], st: State) -> SymbolShaped
+pub fn symbol_shape(s: &[u8], st: Spot) -> SymbolShaped
     requires { ⌜ length (now s) ≤ 4096 ⌝ }
     ensures { λ r. ⌜ Leads (now (s .entry)) symbolTypeBody st (shapeSymbol (r .shape)) (r .state) ⌝ }
 {
@@ -157,11 +157,11 @@ pub fn symbol_shape(s: &[u8], st: State) -> SymbolShaped
 
 pub struct Parsing {
     pub form: ParseForm,
-    pub state: State,
+    pub state: Spot,
 }
 
 // parse, behind its `?`, up to its first part.
-pub fn parse_form(s: &[u8], st: State) -> Parsing
+pub fn parse_form(s: &[u8], st: Spot) -> Parsing
     requires { ⌜ length (now s) ≤ 4096 ⌝ }
     ensures { λ r. ⌜ Leads (now (s .entry)) (ordered parseForms parseOf (parseOf Name)) st (parseOf (r .form)) (r .state) ⌝ }
 {
@@ -174,7 +174,7 @@ pub fn parse_form(s: &[u8], st: State) -> Parsing
 }
 
 // One more than the index that stands here; 0 at the end.
-fn index_and_one(s: &[u8], st: State) -> Took
+fn index_and_one(s: &[u8], st: Spot) -> Took
     requires { ⌜ length (now s) ≤ 4096 ⌝ }
     ensures { λ r. ⌜ Values (now (s .entry)) indexAndOne st r ⌝ }
 {
@@ -197,7 +197,7 @@ fn index_and_one(s: &[u8], st: State) -> Took
 }
 
 // A guard's index; `guard` is 1 for one.
-pub fn guard_index(s: &[u8], st: State, guard: u32) -> Took
+pub fn guard_index(s: &[u8], st: Spot, guard: u32) -> Took
     requires { ⌜ length (now s) ≤ 4096 ⌝ }
     ensures { λ r. ⌜ Values (now (s .entry)) (guardIndex (eqb guard 1)) st r ⌝ }
 {

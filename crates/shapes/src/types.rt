@@ -9,10 +9,10 @@ ghost use Rattle.steps.specs.Does.{Leads};
 ghost use Rattle.shapes.specs.Shapes.{basicOf, shapeType, numberedType};
 use forms::types::TypeForm;
 use forms::types::TypeLetter;
-use grammar::State;
 use steps::leaves::expect;
 use steps::leaves::number;
 use steps::leaves::qualifier;
+use steps::state::Spot;
 use steps::state::Value;
 use steps::state::past;
 
@@ -33,17 +33,17 @@ pub enum Shape {
 
 pub struct Shaped {
     pub shape: Shape,
-    pub state: State,
+    pub state: Spot,
 }
 
-fn shape_at(shape: Shape, st: State) -> Shaped
+fn shape_at(shape: Shape, st: Spot) -> Shaped
     ensures { λ r. ⌜ r ≡ record { shape = shape; state = st } ⌝ }
 {
     Shaped { shape, state: st }
 }
 
 // A node of a kind with the number that stands here.
-fn numbered(s: &[u8], st: State, kind: u32) -> Shaped
+fn numbered(s: &[u8], st: Spot, kind: u32) -> Shaped
     requires { ⌜ length (now s) ≤ 4096 ⌝ }
     ensures { λ r. ⌜ Leads (now (s .entry)) (numberedType kind) st (shapeType (r .shape)) (r .state) ⌝ }
 {
@@ -56,7 +56,7 @@ fn numbered(s: &[u8], st: State, kind: u32) -> Shaped
 }
 
 // The number of a template's parameter, which stands here negated.
-fn parameter(s: &[u8], st: State) -> Shaped
+fn parameter(s: &[u8], st: Spot) -> Shaped
     requires { ⌜ length (now s) ≤ 4096 ⌝ }
     ensures { λ r. ⌜ Leads (now (s .entry)) (letterType 0 Parameter) st (shapeType (r .shape)) (r .state) ⌝ }
 {
@@ -71,7 +71,7 @@ fn parameter(s: &[u8], st: State) -> Shaped
     }
 }
 
-fn letter_shape(s: &[u8], st: State, l: TypeLetter, sc: u32) -> Shaped
+fn letter_shape(s: &[u8], st: Spot, l: TypeLetter, sc: u32) -> Shaped
     requires { ⌜ length (now s) ≤ 4096 ⌝ }
     requires { ⌜ basicOf l ≤ 21 ⌝ }
     ensures { λ r. ⌜ Leads (now (s .entry)) (letterType sc l) st (shapeType (r .shape)) (r .state) ⌝ }
@@ -94,7 +94,7 @@ fn letter_shape(s: &[u8], st: State, l: TypeLetter, sc: u32) -> Shaped
 }
 
 // What follows the prefixes.
-fn plain_shape(s: &[u8], st: State, sc: u32) -> Shaped
+fn plain_shape(s: &[u8], st: Spot, sc: u32) -> Shaped
     requires { ⌜ length (now s) ≤ 4096 ⌝ }
     ensures { λ r. ⌜ Leads (now (s .entry)) (plainType sc) st (shapeType (r .shape)) (r .state) ⌝ }
 {
@@ -103,7 +103,7 @@ fn plain_shape(s: &[u8], st: State, sc: u32) -> Shaped
     letter_shape(s, past(st, h.taken), l, sc)
 }
 
-fn reclassed(s: &[u8], st: State) -> Shaped
+fn reclassed(s: &[u8], st: Spot) -> Shaped
     requires { ⌜ length (now s) ≤ 4096 ⌝ }
     ensures { λ r. ⌜ Leads (now (s .entry)) (formType 0 Reclassed) st (shapeType (r .shape)) (r .state) ⌝ }
 {
@@ -111,7 +111,7 @@ fn reclassed(s: &[u8], st: State) -> Shaped
     plain_shape(s, q.state, q.bits)
 }
 
-fn member_pointer(s: &[u8], st: State) -> Shaped
+fn member_pointer(s: &[u8], st: Spot) -> Shaped
     requires { ⌜ length (now s) ≤ 4096 ⌝ }
     ensures { λ r. ⌜ Leads (now (s .entry)) (formType 0 MemberPointer) st (shapeType (r .shape)) (r .state) ⌝ }
 {
@@ -123,7 +123,7 @@ fn member_pointer(s: &[u8], st: State) -> Shaped
     }
 }
 
-fn form_shape(s: &[u8], st: State, f: TypeForm, sc: u32) -> Shaped
+fn form_shape(s: &[u8], st: Spot, f: TypeForm, sc: u32) -> Shaped
     requires { ⌜ length (now s) ≤ 4096 ⌝ }
     ensures { λ r. ⌜ Leads (now (s .entry)) (formType sc f) st (shapeType (r .shape)) (r .state) ⌝ }
 {
@@ -148,7 +148,7 @@ fn form_shape(s: &[u8], st: State, f: TypeForm, sc: u32) -> Shaped
 }
 
 // read_var_type, up to its first part.
-pub fn type_shape(s: &[u8], st: State, sc: u32) -> Shaped
+pub fn type_shape(s: &[u8], st: Spot, sc: u32) -> Shaped
     requires { ⌜ length (now s) ≤ 4096 ⌝ }
     ensures { λ r. ⌜ Leads (now (s .entry)) (varTypeBody sc) st (shapeType (r .shape)) (r .state) ⌝ }
 {

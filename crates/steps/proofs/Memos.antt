@@ -15,9 +15,9 @@ use Rattle.grammar.specs.Program.{Store, names, types, ret, fail, when, recall,
 use Rattle.grammar.specs.Table.{counted, sameTable}
 use Rattle.grammar.specs.Grammar.{Reading}
 use Rattle.grammar.specs.declared.Memo.{Memo}
-use Rattle.grammar.specs.declared.State.{State}
 use Rattle.grammar.specs.declared.Refusal.the-variants.{Syntax}
-use Rattle.steps.specs.Does.{refusedAt, foundAt, Finds, Keeps}
+use Rattle.steps.specs.Does.{Lent, lent, full, counting, refusedAt, foundAt, Finds, Keeps}
+use Rattle.steps.specs.declared.state.Spot.{Spot}
 use Rattle.steps.specs.declared.state.Got.{Got}
 
 -- one of the first n + 1 entries is one of the first n, or the last of them
@@ -57,18 +57,14 @@ count types m = m .«types_len»
 abbrev entryOf : Store → ℕ → Reading ℕ
 entryOf w i = recall λ m. when (ltb i (count w m)) (ret (getD (entries w m) i 0)) fail
 
-module _ (w : Store) {i : ℕ} {st : State} {g : Got} where
-  pub entry-at : i < count w (st .memo) → g ≡ foundAt (getD (entries w (st .memo)) i 0) 0 st → Finds (entryOf w i) st g
+module _ (w : Store) {i : ℕ} {st : Spot} {t : Lent} {g : Got} where
+  pub entry-at : i < count w (full st t .memo) → g ≡ foundAt (getD (entries w (full st t .memo)) i 0) 0 st → Finds (entryOf w i) st t g
   unfolding run
-  entry-at h e = record { is = λ s limit room d t. rw (e, lt-ltb i (count w (st .memo)) h); bare = rw e }
+  entry-at h e = record { is = λ s limit room d. rw (e, lt-ltb i (count w (full st t .memo)) h); bare = rw e }
 
-  -- past what is kept stands 0
-  pub entry-past : i < count w (st .memo) → length (entries w (st .memo)) ≤ i → g ≡ foundAt 0 0 st → Finds (entryOf w i) st g
-  entry-past h l e = entry-at h (e ∙ ap (λ (n : ℕ). foundAt n 0 st) (sym (List·getD-eq-default (entries w (st .memo)) 0 l)))
-
-  pub no-entry : count w (st .memo) ≤ i → g ≡ refusedAt Syntax st → Finds (entryOf w i) st g
+  pub no-entry : count w (full st t .memo) ≤ i → g ≡ refusedAt Syntax st → Finds (entryOf w i) st t g
   unfolding run
-  no-entry h e = record { is = λ s limit room d t. rw (e, le-ltb i (count w (st .memo)) h); bare = rw e }
+  no-entry h e = record { is = λ s limit room d. rw (e, le-ltb i (count w (full st t .memo)) h); bare = rw e }
 
 -- one entry more
 abbrev pub grown : Store → ℕ → Memo → Memo
@@ -84,16 +80,19 @@ among : (s t front l : List ℕ) (used n : ℕ) {b : Bool} → front ≡ counted
 unfolding sameTable
 among s t front l used n p h = sym (h ∙ ap (λ (c : List ℕ). anyOf (λ e. eqTree (treeOf c s (n + 1)) (treeOf c s (e + 1))) l) p)
 
-module _ (w : Store) {s : List ℕ} {n : ℕ} {st st′ : State} {t : List ℕ} where
-  keeps-by : {m : Memo} → pick (ltb (count w (st .memo)) 10) (pick (anyOf (sameTable s (st .used) t n) (take (count w (st .memo)) (entries w (st .memo)))) (st .memo) (grown w n (st .memo))) (st .memo) ≡ m → st′ ≡ with m st → Keeps s w n st t st′
-  keeps-by h e = record { is = e ∙ ap (λ (m : Memo). with m st) (sym (added-is (sameTable s (st .used) t) w n (st .memo) ∙ h)) }
+module _ (w : Store) {s : List ℕ} {n : ℕ} {st st′ : Spot} {t t′ : Lent} where
+  keeps-by :
+      {m : Memo} →
+      pick (ltb (count w (full st t .memo)) 10) (pick (anyOf (sameTable s (st .used) (t .table) n) (take (count w (full st t .memo)) (entries w (full st t .memo)))) (full st t .memo) (grown w n (full st t .memo))) (full st t .memo) ≡ m →
+      full st′ t′ ≡ with m (full st t) → Keeps s w n st t st′ t′
+  keeps-by h e = record { is = e ∙ ap (λ (m : Memo). with m (full st t)) (sym (added-is (sameTable s (st .used) (t .table)) w n (full st t .memo) ∙ h)) }
 
-  pub keeps-full : 10 ≤ count w (st .memo) → st′ ≡ st → Keeps s w n st t st′
-  keeps-full h e = keeps-by (rw (le-ltb (count w (st .memo)) 10 h)) e
+  pub keeps-full : 10 ≤ count w (full st t .memo) → full st′ t′ ≡ full st t → Keeps s w n st t st′ t′
+  keeps-full h e = keeps-by (rw (le-ltb (count w (full st t .memo)) 10 h)) e
 
-  module _ {front : List ℕ} {b : Bool} (room : count w (st .memo) < 10) (part : front ≡ counted (st .used) t) (held : b ≡ anyOf (λ e. eqTree (treeOf front s (n + 1)) (treeOf front s (e + 1))) (take (count w (st .memo)) (entries w (st .memo)))) where
-    pub keeps-held : b ≡ true → st′ ≡ st → Keeps s w n st t st′
-    keeps-held h e = keeps-by (rw (lt-ltb (count w (st .memo)) 10 room, among s t front (take (count w (st .memo)) (entries w (st .memo))) (st .used) n part held, h)) e
+  module _ {front : List ℕ} {b : Bool} (room : count w (full st t .memo) < 10) (part : front ≡ counted (st .used) (t .table)) (held : b ≡ anyOf (λ e. eqTree (treeOf front s (n + 1)) (treeOf front s (e + 1))) (take (count w (full st t .memo)) (entries w (full st t .memo)))) where
+    pub keeps-held : b ≡ true → full st′ t′ ≡ full st t → Keeps s w n st t st′ t′
+    keeps-held h e = keeps-by (rw (lt-ltb (count w (full st t .memo)) 10 room, among s (t .table) front (take (count w (full st t .memo)) (entries w (full st t .memo))) (st .used) n part held, h)) e
 
-    pub keeps-more : b ≡ false → st′ ≡ with (grown w n (st .memo)) st → Keeps s w n st t st′
-    keeps-more h e = keeps-by (rw (lt-ltb (count w (st .memo)) 10 room, among s t front (take (count w (st .memo)) (entries w (st .memo))) (st .used) n part held, h)) e
+    pub keeps-more : b ≡ false → full st′ t′ ≡ with (grown w n (full st t .memo)) (full st t) → Keeps s w n st t st′ t′
+    keeps-more h e = keeps-by (rw (lt-ltb (count w (full st t .memo)) 10 room, among s (t .table) front (take (count w (full st t .memo)) (entries w (full st t .memo))) (st .used) n part held, h)) e

@@ -21,42 +21,42 @@ use Rattle.forms.specs.Types.{typeReference}
 use Rattle.forms.proofs.Starts.{digit-at}
 use Rattle.forms.specs.declared.types.Reference.{Reference}
 use Rattle.forms.specs.declared.types.Reference.the-variants.{Stored}
-use Rattle.grammar.specs.Program.{found, out, run, at+}
+use Rattle.grammar.specs.Program.{found, out, run}
 use Rattle.grammar.specs.Words.{leafIs, leaf, spanIs, span, classIs, class, byteAt}
 use Rattle.strings.proofs.Fit.{SpanFits}
 use Rattle.grammar.proofs.Leaves.{ReferenceFits, reference-fits}
 use Rattle.grammar.proofs.Funded.{true-false}
-use Rattle.grammar.specs.declared.State.{State}
-use Rattle.steps.specs.Does.{does, valued, Values, Classes, tookLeaf, tookSpan, classedAt, LeafRoom, SpanRoom, ClassRoom, Digits, tookReference, Refers}
+use Rattle.steps.specs.Does.{Lent, full, further, does, valued, Values, Classes, tookLeaf, tookSpan, classedAt, LeafRoom, SpanRoom, ClassRoom, Digits, tookReference, Refers}
+use Rattle.steps.specs.declared.state.Spot.{Spot}
 use Rattle.steps.specs.declared.state.Value.{Value}
 use Rattle.steps.specs.declared.state.Value.the-variants.{Is, Bad}
 use Rattle.steps.specs.declared.state.Took.{Took}
 use Rattle.steps.specs.declared.state.Classed.{Classed}
 
-leaf-says : (s : List ℕ) (limit room d : ℕ) (l : Leaf) (st : State) (t : List ℕ) → out (valued (tookLeaf l st .value)) (tookLeaf l st .state) t ≡ does s limit room d (leafIs l) st t
+leaf-says : (s : List ℕ) (limit room d : ℕ) (l : Leaf) (st : Spot) (t : Lent) → out (valued (tookLeaf l st .value)) (full (tookLeaf l st .state) t) (t .table) ≡ does s limit room d (leafIs l) st t
 unfolding run
 leaf-says s limit room d (leafs.Value v n) st t = refl
 leaf-says s limit room d (leafs.Bad n) st t = refl
 
-span-says : (s : List ℕ) (limit room d : ℕ) (l : Span) (st : State) (t : List ℕ) → out (valued (tookSpan l st .value)) (tookSpan l st .state) t ≡ does s limit room d (spanIs l) st t
+span-says : (s : List ℕ) (limit room d : ℕ) (l : Span) (st : Spot) (t : Lent) → out (valued (tookSpan l st .value)) (full (tookSpan l st .state) t) (t .table) ≡ does s limit room d (spanIs l) st t
 unfolding run
 span-says s limit room d (spans.Takes n) st t = refl
 span-says s limit room d (spans.Bad n) st t = refl
 
-pub values-leaf : {s : List ℕ} (f : List ℕ → Leaf) {l : Leaf} {st : State} {r : Took} → l ≡ f (drop (st .at) s) → r ≡ tookLeaf l st → Values s (leaf f) st r
+pub values-leaf : {s : List ℕ} (f : List ℕ → Leaf) {l : Leaf} {st : Spot} {r : Took} → l ≡ f (drop (st .at) s) → r ≡ tookLeaf l st → Values s (leaf f) st r
 unfolding run
 values-leaf {s} f {l} {st} {r} e h =
-    record { is = λ limit room d t. ap (λ (r : Took). out (valued (r .value)) (r .state) t) h ∙ leaf-says s limit room d l st t ∙ ap (λ (l : Leaf). does s limit room d (leafIs l) st t) e }
+    record { is = λ limit room d t. ap (λ (r : Took). out (valued (r .value)) (full (r .state) t) (t .table)) h ∙ leaf-says s limit room d l st t ∙ ap (λ (l : Leaf). does s limit room d (leafIs l) st t) e }
 
-pub values-span : {s : List ℕ} (f : List ℕ → Span) {l : Span} {st : State} {r : Took} → l ≡ f (drop (st .at) s) → r ≡ tookSpan l st → Values s (span f) st r
+pub values-span : {s : List ℕ} (f : List ℕ → Span) {l : Span} {st : Spot} {r : Took} → l ≡ f (drop (st .at) s) → r ≡ tookSpan l st → Values s (span f) st r
 unfolding run
 values-span {s} f {l} {st} {r} e h =
-    record { is = λ limit room d t. ap (λ (r : Took). out (valued (r .value)) (r .state) t) h ∙ span-says s limit room d l st t ∙ ap (λ (l : Span). does s limit room d (spanIs l) st t) e }
+    record { is = λ limit room d t. ap (λ (r : Took). out (valued (r .value)) (full (r .state) t) (t .table)) h ∙ span-says s limit room d l st t ∙ ap (λ (l : Span). does s limit room d (spanIs l) st t) e }
 
-pub classes-leaf : {s : List ℕ} (f : List ℕ → Class) {c : Class} {st : State} {r : Classed} → c ≡ f (drop (st .at) s) → r ≡ classedAt c st → Classes s (class f) st r
+pub classes-leaf : {s : List ℕ} (f : List ℕ → Class) {c : Class} {st : Spot} {r : Classed} → c ≡ f (drop (st .at) s) → r ≡ classedAt c st → Classes s (class f) st r
 unfolding run
 classes-leaf {s} f {c} {st} {r} e h =
-    record { is = λ limit room d t. ap (λ (r : Classed). out (found (r .bits)) (r .state) t) h ∙ ap (λ (c : Class). does s limit room d (classIs c) st t) e }
+    record { is = λ limit room d t. ap (λ (r : Classed). out (found (r .bits)) (full (r .state) t) (t .table)) h ∙ ap (λ (c : Class). does s limit room d (classIs c) st t) e }
 
 -- room for what is taken
 room-leaf : (at most : ℕ) (l : Leaf) → Fits most l → most ≤ 4096 - at → at < 65536 → LeafRoom at l
@@ -94,28 +94,28 @@ pub stands-room : (s b : List ℕ) (at : ℕ) → length s ≤ 4096 → at < 655
 stands-room s b at short low e f = let l = starts-fits b (drop at s) (sym e ∙ f) in let m = rest-short s at short low in omega arith
 
 -- a digit, a stored type: by what was found
-abbrev tookDigit : Found → State → Took
-tookDigit (Byte i) st = record { value = Is i; state = at+ 1 st }
+abbrev tookDigit : Found → Spot → Took
+tookDigit (Byte i) st = record { value = Is i; state = further 1 st }
 tookDigit Nothing st = record { value = Bad; state = st }
 
-digit-or : (b : Bool) (i : ℕ) (st : State) → tookDigit (pick b (Byte i) Nothing) st ≡ pick b (record { value = Is i; state = at+ 1 st }) (record { value = Bad; state = st })
+digit-or : (b : Bool) (i : ℕ) (st : Spot) → tookDigit (pick b (Byte i) Nothing) st ≡ pick b (record { value = Is i; state = further 1 st }) (record { value = Bad; state = st })
 digit-or true i st = refl
 digit-or false i st = refl
 
-digit-says : (s : List ℕ) (at : ℕ) (st : State) → tookDigit (readDigit (drop at s)) st ≡ pick (isDigit (byteAt s at)) (record { value = Is (byteAt s at - code "0"); state = at+ 1 st }) (record { value = Bad; state = st })
+digit-says : (s : List ℕ) (at : ℕ) (st : Spot) → tookDigit (readDigit (drop at s)) st ≡ pick (isDigit (byteAt s at)) (record { value = Is (byteAt s at - code "0"); state = further 1 st }) (record { value = Bad; state = st })
 unfolding readDigit
 digit-says [] zero st = refl
 digit-says [] (suc at) st = refl
 digit-says (x ∷ s) zero st = digit-or (isDigit x) (x - code "0") st
 digit-says (x ∷ s) (suc at) st = digit-says s at st
 
-pub digits : {s : List ℕ} {f g : Found} {st : State} {r : Took} → f ≡ readDigit (drop (st .at) s) → f ≡ g → r ≡ tookDigit g st → Digits s st r
+pub digits : {s : List ℕ} {f g : Found} {st : Spot} {r : Took} → f ≡ readDigit (drop (st .at) s) → f ≡ g → r ≡ tookDigit g st → Digits s st r
 digits {s} {st = st} e h k = record { is = k ∙ ap (λ (f : Found). tookDigit f st) (sym h ∙ e) ∙ digit-says s (st .at) st }
 
 pub digit-room : (s : List ℕ) (at : ℕ) → length s ≤ 4096 → {f : Found} {i : ℕ} → f ≡ readDigit (drop at s) → f ≡ Byte i → at + 1 < 65536
 digit-room s at short e h = omega (arith, digit-at s at (sym e ∙ h))
 
-pub refers : {s : List ℕ} {f g : Reference} {st : State} {r : Took} → f ≡ typeReference (drop (st .at) s) → f ≡ g → r ≡ tookReference g st → Refers s st r
+pub refers : {s : List ℕ} {f g : Reference} {st : Spot} {r : Took} → f ≡ typeReference (drop (st .at) s) → f ≡ g → r ≡ tookReference g st → Refers s st r
 refers {st = st} e h k = record { is = k ∙ ap (λ (f : Reference). tookReference f st) (sym h ∙ e) }
 
 pub reference-room : (s : List ℕ) (at : ℕ) → length s ≤ 4096 → at < 65536 → {f : Reference} {i n : ℕ} → f ≡ typeReference (drop at s) → f ≡ Stored i n → at + n < 65536

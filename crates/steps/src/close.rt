@@ -4,16 +4,16 @@ ghost use mathlib.Core.List.{List, [], _∷_};
 ghost use Prim.Native.Nat.{ℕ, _+_, _<_, _≤_, _^_, max};
 ghost use Rattle.grammar.specs.Table.{laid, tallestIn};
 ghost use Rattle.grammar.specs.Grammar.{to};
-ghost use Rattle.steps.specs.Does.{plain, Does, Follows, Shuts, Stores, Lays, LaidRoom, gotBy, Small, Tops, raised, rowOf, placeOf, foundAt};
+ghost use Rattle.steps.specs.Does.{plain, Follows, lent, Puts, Lays, Shuts, Small, Tops, raised, rowOf, placeOf};
 use crate::memo::counted;
 use crate::state::Answer;
 use crate::state::Got;
 use crate::state::Limits;
+use crate::state::Spot;
 use crate::state::found;
 use crate::state::larger;
 use crate::state::refused;
 use grammar::Refusal;
-use grammar::State;
 use node::Node;
 
 // A node of a kind by its references and numbers; its height comes when it closes.
@@ -64,90 +64,55 @@ fn raised_to(x: Node, height: u32) -> Node
     }
 }
 
-pub enum Verdict {
-    Done,
-    Deep,
-    Full,
-}
-
-// What closing a node comes to, and the depth behind it.
-pub struct Laid {
-    pub verdict: Verdict,
-    pub deep: u32,
-}
-
-// Stores the node x where there is room for one more; it asks for this depth.
-fn put(t: &mut [u32], used: u16, deep: u32, room: u16, x: Node, depth: u32) -> Laid
-    ensures { λ r. ⌜ Stores room depth x used deep (now (t .entry)) r (now (t .exit)) ⌝ }
-{
-    if room <= used {
-        return Laid {
-            verdict: Verdict::Full,
-            deep,
-        };
-    }
-    node::put_node(t, used as usize, x);
-    Laid {
-        verdict: Verdict::Done,
-        deep: larger(deep, depth),
-    }
-}
-
-// Stores the node x within the limits. It takes and gives no state, since the states are large and every node passes here.
-fn lay(t: &mut [u32], used: u16, deep: u32, lim: Limits, x: Node) -> Laid
-    ensures { λ r. ⌜ Lays (lim .depth) (lim .room) x used deep (now (t .entry)) r (now (t .exit)) ⌝ }
-{
-    let top = tallest(counted(t, used), x);
-    if x.kind <= 2 {
-        return put(t, used, deep, lim.room, raised_to(x, top as u32), 0);
-    }
-    if (lim.depth as usize) <= top {
-        return Laid {
-            verdict: Verdict::Deep,
-            deep,
-        };
-    }
-    let height = (top + 1) as u32;
-    put(t, used, deep, lim.room, raised_to(x, height), height)
-}
-
-// The answer of a closed node, and the state behind it.
-fn closed(l: Laid, st: State) -> Got
-    requires { ⌜ LaidRoom (l .verdict) (st .used) ⌝ }
-    ensures { λ r. ⌜ r ≡ gotBy (l .verdict) (l .deep) st ⌝ }
+// Counts the node x where there is room for one more; it asks for this depth.
+fn put(t: &mut [u32], st: Spot, room: u16, x: Node, depth: u16) -> Got
+    ensures { λ r. ⌜ Puts room depth x st (now (t .entry)) r (now (t .exit)) ⌝ }
     ensures { λ r. ⌜ Small r ⌝ }
 {
-    let v = l.verdict;
-    match v {
-        Verdict::Done => {
-            let m = st.memo;
-            let next = State {
-                at: st.at,
-                used: st.used + 1,
-                deep: l.deep,
-                memo: m,
-            };
-            found(st.used, next)
-        }
-        Verdict::Deep => refused(Refusal::Deep, st),
-        Verdict::Full => refused(Refusal::Full, st),
+    let used = st.used;
+    if room <= used {
+        return refused(Refusal::Full, st);
     }
+    node::put_node(t, used as usize, x);
+    let next = Spot {
+        at: st.at,
+        used: used + 1,
+        deep: larger(st.deep, depth),
+        names_len: st.names_len,
+        types_len: st.types_len,
+    };
+    found(used, next)
 }
 
-pub fn shut(t: &mut [u32], st: State, lim: Limits, x: Node) -> Got
+// Closes the node x, which refers to nodes of this height.
+fn lay(t: &mut [u32], st: Spot, lim: Limits, x: Node, top: usize) -> Got
+    requires { ⌜ top < 2 ^ 32 ⌝ }
+    ensures { λ r. ⌜ Lays (lim .depth) (lim .room) top x st (now (t .entry)) r (now (t .exit)) ⌝ }
+    ensures { λ r. ⌜ Small r ⌝ }
+{
+    if x.kind <= 2 {
+        return put(t, st, lim.room, raised_to(x, top as u32), 0);
+    }
+    if (lim.depth as usize) <= top {
+        return refused(Refusal::Deep, st);
+    }
+    let height = top + 1;
+    put(t, st, lim.room, raised_to(x, height as u32), height as u16)
+}
+
+pub fn shut(t: &mut [u32], st: Spot, lim: Limits, x: Node) -> Got
     ensures { λ r. ⌜ Shuts (lim .depth) (lim .room) x st (now (t .entry)) r (now (t .exit)) ⌝ }
     ensures { λ r. ⌜ Small r ⌝ }
 {
-    let l = lay(t, st.used, st.deep, lim, x);
-    closed(l, st)
+    let top = tallest(counted(t, st.used), x);
+    lay(t, st, lim, x, top)
 }
 
 // A node that refers to none.
-pub fn shut_leaf(t: &mut [u32], st: State, lim: Limits, kind: u32, p: u32, q: u32) -> Got
+pub fn shut_leaf(t: &mut [u32], st: Spot, lim: Limits, kind: u32, p: u32, q: u32) -> Got
     ensures { λ r. ⌜ Shuts (lim .depth) (lim .room) (laid kind 0 (p ∷ q ∷ []) []) st (now (t .entry)) r (now (t .exit)) ⌝ }
 {
-    let l = lay(t, st.used, st.deep, lim, made(kind, 0, 0, 0, p, q, 0));
-    closed(l, st)
+    lay(t, st, lim, made(kind, 0, 0, 0, p, q, 0), 0)
 }
 
 // A node above the one that g found.
@@ -179,7 +144,7 @@ pub fn over(t: &mut [u32], g: Got, lim: Limits, x: Node) -> Got
 
 // A place behind the last one of a list, for the entry that g found: the answer is the reference to it.
 pub fn placed(t: &mut [u32], g: Got, lim: Limits, kind: u32, last: u16) -> Got
-    ensures { λ r. ⌜ ((s : List ℕ) (d : ℕ) → Follows s (lim .depth) (lim .room) d plain g (now (t .entry)) (λ n. placeOf kind n last) plain r (now (t .exit))) ⌝ }
+    ensures { λ r. ⌜ ((s names types : List ℕ) (d : ℕ) → Follows s (lim .depth) (lim .room) d plain g (lent (now (t .entry)) names types) (λ n. placeOf kind n last) plain r (lent (now (t .exit)) names types)) ⌝ }
 {
     let a = g.answer;
     match a {

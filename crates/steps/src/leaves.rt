@@ -1,7 +1,6 @@
 // The leaves at a state's place: what they say, and the state behind the bytes that they take.
 ghost use mathlib.Core.Path.{_≡_};
 ghost use Prim.Native.Nat.{_+_, _≤_, _<_};
-ghost use Rattle.grammar.specs.Program.{at+};
 ghost use Rattle.steps.specs.declared.state.Value.the-variants.{Is};
 ghost use lib.ListN.{length};
 ghost use Rattle.scan.specs.Number.{readGuardNumber};
@@ -10,19 +9,19 @@ ghost use Rattle.letters.specs.Classes.{readCallingConv, readFuncClass, readSto
 ghost use Rattle.operators.specs.Operators.{readOperator};
 ghost use Rattle.grammar.specs.Words.{leaf, span, class, number, unsigned, string};
 ghost use Rattle.grammar.specs.Grammar.{pointeeClass, elementLetter, elementClass};
-ghost use Rattle.steps.specs.Does.{Values, Classes, Meets, Digits, Refers, tookLeaf, tookSpan, classedAt, LeafRoom, SpanRoom, ClassRoom};
+ghost use Rattle.steps.specs.Does.{further, Values, Classes, Meets, Digits, Refers, tookLeaf, tookSpan, classedAt, LeafRoom, SpanRoom, ClassRoom};
 use crate::state::Classed;
+use crate::state::Spot;
 use crate::state::Took;
 use crate::state::Value;
 use crate::state::past;
 use forms::types::Reference;
-use grammar::State;
 use letters::Class;
 use scan::cursor::Found;
 use scan::cursor::Leaf;
 use scan::cursor::Span;
 
-fn took(l: Leaf, st: State) -> Took
+fn took(l: Leaf, st: Spot) -> Took
     requires { ⌜ LeafRoom (st .at) l ⌝ }
     ensures { λ r. ⌜ r ≡ tookLeaf l st ⌝ }
 {
@@ -38,7 +37,7 @@ fn took(l: Leaf, st: State) -> Took
     }
 }
 
-fn took_span(l: Span, st: State) -> Took
+fn took_span(l: Span, st: Spot) -> Took
     requires { ⌜ SpanRoom (st .at) l ⌝ }
     ensures { λ r. ⌜ r ≡ tookSpan l st ⌝ }
 {
@@ -54,7 +53,7 @@ fn took_span(l: Span, st: State) -> Took
     }
 }
 
-fn classed(c: Class, st: State) -> Classed
+fn classed(c: Class, st: Spot) -> Classed
     requires { ⌜ ClassRoom (st .at) c ⌝ }
     ensures { λ r. ⌜ r ≡ classedAt c st ⌝ }
 {
@@ -64,42 +63,42 @@ fn classed(c: Class, st: State) -> Classed
     }
 }
 
-pub fn number(s: &[u8], st: State) -> Took
+pub fn number(s: &[u8], st: Spot) -> Took
     requires { ⌜ length (now s) ≤ 4096 ⌝ }
     ensures { λ r. ⌜ Values (now (s .entry)) number st r ⌝ }
 {
     took(scan::number::read_number(s, st.at as usize), st)
 }
 
-pub fn unsigned(s: &[u8], st: State) -> Took
+pub fn unsigned(s: &[u8], st: Spot) -> Took
     requires { ⌜ length (now s) ≤ 4096 ⌝ }
     ensures { λ r. ⌜ Values (now (s .entry)) unsigned st r ⌝ }
 {
     took(scan::number::read_unsigned(s, st.at as usize), st)
 }
 
-pub fn guard_number(s: &[u8], st: State) -> Took
+pub fn guard_number(s: &[u8], st: Spot) -> Took
     requires { ⌜ length (now s) ≤ 4096 ⌝ }
     ensures { λ r. ⌜ Values (now (s .entry)) (leaf readGuardNumber) st r ⌝ }
 {
     took(scan::number::read_guard_number(s, st.at as usize), st)
 }
 
-pub fn calling_conv(s: &[u8], st: State) -> Took
+pub fn calling_conv(s: &[u8], st: Spot) -> Took
     requires { ⌜ length (now s) ≤ 4096 ⌝ }
     ensures { λ r. ⌜ Values (now (s .entry)) (leaf readCallingConv) st r ⌝ }
 {
     took(letters::read_calling_conv(s, st.at as usize), st)
 }
 
-pub fn func_class(s: &[u8], st: State) -> Took
+pub fn func_class(s: &[u8], st: Spot) -> Took
     requires { ⌜ length (now s) ≤ 4096 ⌝ }
     ensures { λ r. ⌜ Values (now (s .entry)) (leaf readFuncClass) st r ⌝ }
 {
     took(letters::read_func_class(s, st.at as usize), st)
 }
 
-pub fn return_class(s: &[u8], st: State) -> Took
+pub fn return_class(s: &[u8], st: Spot) -> Took
     requires { ⌜ length (now s) ≤ 4096 ⌝ }
     ensures { λ r. ⌜ Values (now (s .entry)) (leaf readStorageClassForReturn) st r ⌝ }
 {
@@ -109,56 +108,56 @@ pub fn return_class(s: &[u8], st: State) -> Took
     )
 }
 
-pub fn string_width(s: &[u8], st: State) -> Took
+pub fn string_width(s: &[u8], st: Spot) -> Took
     requires { ⌜ length (now s) ≤ 4096 ⌝ }
     ensures { λ r. ⌜ Values (now (s .entry)) (leaf readStringWidth) st r ⌝ }
 {
     took(letters::read_string_width(s, st.at as usize), st)
 }
 
-pub fn guard_marker(s: &[u8], st: State) -> Took
+pub fn guard_marker(s: &[u8], st: Spot) -> Took
     requires { ⌜ length (now s) ≤ 4096 ⌝ }
     ensures { λ r. ⌜ Values (now (s .entry)) (leaf readGuardMarker) st r ⌝ }
 {
     took(letters::read_guard_marker(s, st.at as usize), st)
 }
 
-pub fn operator(s: &[u8], st: State) -> Took
+pub fn operator(s: &[u8], st: Spot) -> Took
     requires { ⌜ length (now s) ≤ 4096 ⌝ }
     ensures { λ r. ⌜ Values (now (s .entry)) (leaf readOperator) st r ⌝ }
 {
     took(operators::read_operator(s, st.at as usize), st)
 }
 
-pub fn string(s: &[u8], st: State) -> Took
+pub fn string(s: &[u8], st: Spot) -> Took
     requires { ⌜ length (now s) ≤ 4096 ⌝ }
     ensures { λ r. ⌜ Values (now (s .entry)) string st r ⌝ }
 {
     took_span(scan::name::read_string(s, st.at as usize), st)
 }
 
-pub fn md5(s: &[u8], st: State) -> Took
+pub fn md5(s: &[u8], st: Spot) -> Took
     requires { ⌜ length (now s) ≤ 4096 ⌝ }
     ensures { λ r. ⌜ Values (now (s .entry)) (span readMd5Name) st r ⌝ }
 {
     took_span(scan::name::read_md5_name(s, st.at as usize), st)
 }
 
-pub fn storage_class(s: &[u8], st: State) -> Classed
+pub fn storage_class(s: &[u8], st: Spot) -> Classed
     requires { ⌜ length (now s) ≤ 4096 ⌝ }
     ensures { λ r. ⌜ Classes (now (s .entry)) (class readStorageClass) st r ⌝ }
 {
     classed(letters::read_storage_class(s, st.at as usize), st)
 }
 
-pub fn qualifier(s: &[u8], st: State) -> Classed
+pub fn qualifier(s: &[u8], st: Spot) -> Classed
     requires { ⌜ length (now s) ≤ 4096 ⌝ }
     ensures { λ r. ⌜ Classes (now (s .entry)) (class readQualifier) st r ⌝ }
 {
     classed(letters::read_qualifier(s, st.at as usize), st)
 }
 
-pub fn func_qualifiers(s: &[u8], st: State) -> Classed
+pub fn func_qualifiers(s: &[u8], st: Spot) -> Classed
     requires { ⌜ length (now s) ≤ 4096 ⌝ }
     ensures { λ r. ⌜ Classes (now (s .entry)) (class readFuncQualifiers) st r ⌝ }
 {
@@ -166,7 +165,7 @@ pub fn func_qualifiers(s: &[u8], st: State) -> Classed
 }
 
 // These bytes, taken if they stand here.
-pub fn expect(literal: &[u8], s: &[u8], st: State) -> Took
+pub fn expect(literal: &[u8], s: &[u8], st: Spot) -> Took
     requires { ⌜ length (now s) ≤ 4096 ⌝ }
     ensures { λ r. ⌜ Meets (now (literal .entry)) (now (s .entry)) st r ⌝ }
 {
@@ -183,7 +182,7 @@ pub fn expect(literal: &[u8], s: &[u8], st: State) -> Took
 }
 
 // A digit, taken if it stands here.
-pub fn digit(s: &[u8], st: State) -> Took
+pub fn digit(s: &[u8], st: Spot) -> Took
     requires { ⌜ length (now s) ≤ 4096 ⌝ }
     ensures { λ r. ⌜ Digits (now (s .entry)) st r ⌝ }
 {
@@ -201,7 +200,7 @@ pub fn digit(s: &[u8], st: State) -> Took
 }
 
 // A stored type, taken if one is named here.
-pub fn reference(s: &[u8], st: State) -> Took
+pub fn reference(s: &[u8], st: Spot) -> Took
     requires { ⌜ length (now s) ≤ 4096 ⌝ }
     ensures { λ r. ⌜ Refers (now (s .entry)) st r ⌝ }
 {
@@ -219,7 +218,7 @@ pub fn reference(s: &[u8], st: State) -> Took
 }
 
 // `E` and a class.
-pub fn pointee_class(s: &[u8], st: State) -> Classed
+pub fn pointee_class(s: &[u8], st: Spot) -> Classed
     requires { ⌜ length (now s) ≤ 4096 ⌝ }
     ensures { λ r. ⌜ Classes (now (s .entry)) pointeeClass st r ⌝ }
 {
@@ -238,9 +237,9 @@ pub fn pointee_class(s: &[u8], st: State) -> Classed
     }
 }
 
-fn behind(st: State, bits: u32) -> Took
+fn behind(st: Spot, bits: u32) -> Took
     requires { ⌜ st .at + 1 < 65536 ⌝ }
-    ensures { λ r. ⌜ r ≡ record { value = Is bits; state = at+ 1 st } ⌝ }
+    ensures { λ r. ⌜ r ≡ record { value = Is bits; state = further 1 st } ⌝ }
 {
     Took {
         value: Value::Is(bits),
@@ -248,7 +247,7 @@ fn behind(st: State, bits: u32) -> Took
     }
 }
 
-fn element_letter(s: &[u8], st: State) -> Took
+fn element_letter(s: &[u8], st: Spot) -> Took
     requires { ⌜ length (now s) ≤ 4096 ⌝ }
     ensures { λ r. ⌜ Values (now (s .entry)) elementLetter st r ⌝ }
 {
@@ -272,7 +271,7 @@ fn element_letter(s: &[u8], st: State) -> Took
 }
 
 // `$$C` and a letter that it needs, or nothing.
-pub fn element_class(s: &[u8], st: State) -> Took
+pub fn element_class(s: &[u8], st: Spot) -> Took
     requires { ⌜ length (now s) ≤ 4096 ⌝ }
     ensures { λ r. ⌜ Values (now (s .entry)) elementClass st r ⌝ }
 {

@@ -1,18 +1,22 @@
 // What a reading carries, and what it answers.
 ghost use mathlib.Core.Path.{_≡_};
 ghost use Prim.Native.Nat.{_+_, _-_, _<_, max};
-ghost use Rattle.grammar.specs.Program.{at+, with};
-ghost use Rattle.grammar.specs.Counts.{opened};
-ghost use Rattle.grammar.specs.Grammar.{emptyMemo};
-ghost use Rattle.steps.specs.Does.{refusedAt, foundAt};
-use grammar::Memo;
+ghost use Rattle.steps.specs.Does.{refusedAt, foundAt, further, opening};
 use grammar::Refusal;
-use grammar::State;
 
 // The budgets of a reading.
 pub struct Limits {
     pub depth: u16,
     pub room: u16,
+}
+
+// A state without the memo's entries, which stand in two lent arrays: it is handed along in one word.
+pub struct Spot {
+    pub at: u16,
+    pub used: u16,
+    pub deep: u16,
+    pub names_len: u8,
+    pub types_len: u8,
 }
 
 // A node by its number, or the last place of a list by its reference.
@@ -25,7 +29,7 @@ pub enum Answer {
 pub struct Got {
     pub answer: Answer,
     pub extra: u32,
-    pub state: State,
+    pub state: Spot,
 }
 
 // A number that some bytes say, and the state behind them.
@@ -36,16 +40,16 @@ pub enum Value {
 
 pub struct Took {
     pub value: Value,
-    pub state: State,
+    pub state: Spot,
 }
 
 // The bits of letters that may be missing, and the state behind them.
 pub struct Classed {
     pub bits: u32,
-    pub state: State,
+    pub state: Spot,
 }
 
-pub fn refused(why: Refusal, st: State) -> Got
+pub fn refused(why: Refusal, st: Spot) -> Got
     ensures { λ r. ⌜ r ≡ refusedAt why st ⌝ }
 {
     Got {
@@ -55,7 +59,7 @@ pub fn refused(why: Refusal, st: State) -> Got
     }
 }
 
-pub fn found(n: u16, st: State) -> Got
+pub fn found(n: u16, st: Spot) -> Got
     ensures { λ r. ⌜ r ≡ foundAt n 0 st ⌝ }
 {
     Got {
@@ -65,43 +69,21 @@ pub fn found(n: u16, st: State) -> Got
     }
 }
 
-pub fn empty_memo() -> Memo
-    ensures { λ r. ⌜ r ≡ emptyMemo ⌝ }
-{
-    Memo {
-        names: [0u16; 10],
-        types: [0u16; 10],
-        names_len: 0,
-        types_len: 0,
-    }
-}
-
 // The state n bytes further.
-pub fn past(st: State, n: usize) -> State
+pub fn past(st: Spot, n: usize) -> Spot
     requires { ⌜ st .at + n < 65536 ⌝ }
-    ensures { λ r. ⌜ r ≡ at+ n st ⌝ }
+    ensures { λ r. ⌜ r ≡ further n st ⌝ }
 {
-    let m = st.memo;
-    State {
+    Spot {
         at: ((st.at as usize) + n) as u16,
         used: st.used,
         deep: st.deep,
-        memo: m,
+        names_len: st.names_len,
+        types_len: st.types_len,
     }
 }
 
-pub fn with_memo(st: State, m: Memo) -> State
-    ensures { λ r. ⌜ r ≡ with m st ⌝ }
-{
-    State {
-        at: st.at,
-        used: st.used,
-        deep: st.deep,
-        memo: m,
-    }
-}
-
-pub fn larger(a: u32, b: u32) -> u32
+pub fn larger(a: u16, b: u16) -> u16
     ensures { λ r. ⌜ r ≡ max a b ⌝ }
 {
     if a < b { b } else { a }
@@ -114,14 +96,14 @@ fn less(a: u16, b: u16) -> u16
 }
 
 // One part more is open, and so many more may open.
-pub fn opened(st: State, limit: u16, left: u16) -> State
-    ensures { λ r. ⌜ r ≡ opened (limit - left) st ⌝ }
+pub fn opened(st: Spot, limit: u16, left: u16) -> Spot
+    ensures { λ r. ⌜ r ≡ opening (limit - left) st ⌝ }
 {
-    let m = st.memo;
-    State {
+    Spot {
         at: st.at,
         used: st.used,
-        deep: larger(st.deep, less(limit, left) as u32),
-        memo: m,
+        deep: larger(st.deep, less(limit, left)),
+        names_len: st.names_len,
+        types_len: st.types_len,
     }
 }

@@ -15,7 +15,7 @@ same-length : tie.Need-same-length
 same-length c = search needs
 
 returns : tie.Need-returns
-returns c = λ s d. array-sized (c .before .before .before .above .ensures) (c .beside .ensures)
+returns c = λ s names types d. array-sized (c .before .before .before .above .ensures) (c .beside .ensures)
 
 pub array-end-spec : {M : Type 1} → statement M
 array-end-spec = tie.close (tie.spec above-requires beside-requires same-length returns)

@@ -15,10 +15,10 @@ memorize-type-requires : tie.Need-memorize-type-requires
 memorize-type-requires c κs = search needs
 
 returns : tie.Need-returns
-returns c = kept-long (c .before .if1 .taken) (c .memorize-type .ensures)
+returns c = λ names. kept-long (c .before .before .if1 .taken) (c .memorize-type .ensures names)
 
 returns-2 : tie.Need-returns-2
-returns-2 c = kept-short (c .if1 .left)
+returns-2 c = λ names. kept-short (c .if1 .left)
 
 pub kept-spec : {M : Type 1} → statement M
 kept-spec = tie.close (tie.spec add-if1 cast-if1 memorize-type-requires returns returns-2)

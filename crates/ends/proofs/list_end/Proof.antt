@@ -43,7 +43,7 @@ returns c =
     let at-literal-part = at-placed .before .before .before .before in
     let at-if1 = at-literal-part .before .before .before in
     let at-consume = at-if1 .before in
-    on-there "Z" (sym (at-consume .consume .ensures) ∙ at-if1 .if1 .taken) (does-follows (does-part (reads-opens Variadic (at-literal-part .literal-part .ensures [] refl))) (at-placed .placed .ensures _ _))
+    λ names types. on-there "Z" (sym (at-consume .consume .ensures) ∙ at-if1 .if1 .taken) (does-follows (does-part (reads-opens Variadic (at-literal-part .literal-part .ensures [] names types refl))) (at-placed .placed .ensures _ names types _))
 
 cast-if2 : tie.Need-cast-if2
 cast-if2 c = search needs
@@ -57,7 +57,7 @@ returns-2 c =
     let at-if2 = c .before in
     let at-if1 = at-if2 .before .before in
     let at-consume = at-if1 .before in
-    on-absent "Z" (sym (at-consume .consume .ensures) ∙ at-if1 .if1 .left) (does-look (does-when (le-leb _ _ (at-if2 .if2 .taken)) (does-ret (c .found .ensures))))
+    λ names types. on-absent "Z" (sym (at-consume .consume .ensures) ∙ at-if1 .if1 .left) (does-look (does-when (le-leb _ _ (at-if2 .if2 .taken)) (does-ret (c .found .ensures))))
 
 slice-aggregate-expect : tie.Need-slice-aggregate-expect
 slice-aggregate-expect c = search needs
@@ -87,7 +87,7 @@ returns-3 c =
     let at-if2 = at-expect .before .before in
     let at-if1 = at-if2 .before .before in
     let at-consume = at-if1 .before in
-    on-absent "Z" (sym (at-consume .consume .ensures) ∙ at-if1 .if1 .left) (does-look (does-else (lt-leb _ _ (at-if2 .if2 .left)) (expects "@" (at-expect .expect .ensures) (at-enum-told .enum-told .given .1) (does-ret (c .found2 .ensures)))))
+    λ names types. on-absent "Z" (sym (at-consume .consume .ensures) ∙ at-if1 .if1 .left) (does-look (does-else (lt-leb _ _ (at-if2 .if2 .left)) (expects "@" (at-expect .expect .ensures) (at-enum-told .enum-told .given .1) (does-ret (c .found2 .ensures)))))
 
 returns-4 : tie.Need-returns-4
 unfolding listEnd
@@ -97,7 +97,7 @@ returns-4 c =
     let at-if2 = at-expect .before .before in
     let at-if1 = at-if2 .before .before in
     let at-consume = at-if1 .before in
-    on-absent "Z" (sym (at-consume .consume .ensures) ∙ at-if1 .if1 .left) (does-look (does-else (lt-leb _ _ (at-if2 .if2 .left)) (expects-bad "@" (at-expect .expect .ensures) (at-enum-told2 .enum-told2 .given .1) (c .refused .ensures))))
+    λ names types. on-absent "Z" (sym (at-consume .consume .ensures) ∙ at-if1 .if1 .left) (does-look (does-else (lt-leb _ _ (at-if2 .if2 .left)) (expects-bad "@" (at-expect .expect .ensures) (at-enum-told2 .enum-told2 .given .1) (c .refused .ensures))))
 
 pub list-end-spec : {M : Type 1} → statement M
 list-end-spec =

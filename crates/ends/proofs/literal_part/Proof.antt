@@ -11,7 +11,7 @@ refused-requires : tie.Need-refused-requires
 refused-requires c κs = search needs
 
 returns : tie.Need-returns
-returns c = λ numbers e. opens-deep (c .before .if1 .taken) (c .refused .ensures)
+returns c = λ numbers names types e. opens-deep (c .before .if1 .taken) (c .refused .ensures)
 
 sub-opened : tie.Need-sub-opened
 sub-opened c = search needs
@@ -46,7 +46,7 @@ returns-2 c =
     let at-expect = at-enum-told .before .before in
     let at-opened = at-expect .before in
     let at-if1 = at-opened .before in
-    λ numbers e. opens-body (at-if1 .if1 .left) (at-opened .opened .ensures) (expects-bytes (at-expect .expect .ensures) (at-enum-told .enum-told .given .1) (closes (at-shut-leaf .shut-leaf .ensures) (sym e) refl))
+    λ numbers names types e. opens-body (at-if1 .if1 .left) (at-opened .opened .ensures) (expects-bytes (at-expect .expect .ensures) (at-enum-told .enum-told .given .1) (closes (at-shut-leaf .shut-leaf .ensures) (sym e) refl))
 
 returns-3 : tie.Need-returns-3
 returns-3 c =
@@ -54,7 +54,7 @@ returns-3 c =
     let at-expect = at-enum-told2 .before .before in
     let at-opened = at-expect .before in
     let at-if1 = at-opened .before in
-    λ numbers e. opens-body (at-if1 .if1 .left) (at-opened .opened .ensures) (expects-bytes-bad (at-expect .expect .ensures) (at-enum-told2 .enum-told2 .given .1) (c .refused2 .ensures))
+    λ numbers names types e. opens-body (at-if1 .if1 .left) (at-opened .opened .ensures) (expects-bytes-bad (at-expect .expect .ensures) (at-enum-told2 .enum-told2 .given .1) (c .refused2 .ensures))
 
 pub literal-part-spec : {M : Type 1} → statement M
 literal-part-spec =

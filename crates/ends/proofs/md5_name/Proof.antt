@@ -12,7 +12,7 @@ refused-requires : tie.Need-refused-requires
 refused-requires c κs = search needs
 
 returns : tie.Need-returns
-returns c = reads-deep (c .before .if1 .taken) (c .refused .ensures)
+returns c = λ names types. reads-deep (c .before .if1 .taken) (c .refused .ensures)
 
 sub-opened : tie.Need-sub-opened
 sub-opened c = search needs
@@ -53,7 +53,7 @@ returns-2 c =
     let at-md5 = at-v .before .before in
     let at-opened = at-md5 .before in
     let at-if1 = at-opened .before in
-    reads-body (at-if1 .if1 .left) (at-opened .opened .ensures) (does-here (does-value (at-md5 .md5 .ensures) (at-v .v .given .1) (closes (at-shut-leaf .shut-leaf .ensures) (rw (at-less-one .less-one .ensures, at-opened .opened .ensures)) refl)))
+    λ names types. reads-body (at-if1 .if1 .left) (at-opened .opened .ensures) (does-here (does-value (at-md5 .md5 .ensures) (at-v .v .given .1) (closes (at-shut-leaf .shut-leaf .ensures) (rw (at-less-one .less-one .ensures, at-opened .opened .ensures)) refl)))
 
 returns-3 : tie.Need-returns-3
 unfolding body
@@ -62,7 +62,7 @@ returns-3 c =
     let at-md5 = at-enum-told .before .before in
     let at-opened = at-md5 .before in
     let at-if1 = at-opened .before in
-    reads-body (at-if1 .if1 .left) (at-opened .opened .ensures) (does-here (value-bad (at-md5 .md5 .ensures) (at-enum-told .enum-told .given .1) (c .refused2 .ensures)))
+    λ names types. reads-body (at-if1 .if1 .left) (at-opened .opened .ensures) (does-here (value-bad (at-md5 .md5 .ensures) (at-enum-told .enum-told .given .1) (c .refused2 .ensures)))
 
 pub md5-name-spec : {M : Type 1} → statement M
 md5-name-spec =

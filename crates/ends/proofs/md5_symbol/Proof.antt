@@ -11,7 +11,7 @@ refused-requires : tie.Need-refused-requires
 refused-requires c κs = search needs
 
 returns : tie.Need-returns
-returns c = reads-deep (c .before .if1 .taken) (c .refused .ensures)
+returns c = λ names types. reads-deep (c .before .if1 .taken) (c .refused .ensures)
 
 sub-opened : tie.Need-sub-opened
 sub-opened c = search needs
@@ -43,7 +43,7 @@ returns-2 c =
     let at-md5-name = at-above .before .before .before .before in
     let at-opened = at-md5-name .before in
     let at-if1 = at-opened .before .before in
-    reads-body (at-if1 .if1 .left) (at-opened .opened .ensures) (does-follows (does-part (at-md5-name .md5-name .ensures)) (follows-tops (at-above .above .ensures) (λ n. closing-node refl refl)))
+    λ names types. reads-body (at-if1 .if1 .left) (at-opened .opened .ensures) (does-follows (does-part (at-md5-name .md5-name .ensures names types)) (follows-tops (at-above .above .ensures) (λ n. closing-node refl refl)))
 
 pub md5-symbol-spec : {M : Type 1} → statement M
 md5-symbol-spec =

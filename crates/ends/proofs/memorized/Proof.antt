@@ -19,10 +19,13 @@ enum-told : tie.Need-enum-told
 enum-told c = search needs
 
 returns : tie.Need-returns
-returns c = λ limit room d. follows-found (c .before .before .before .a .given .1) (name-kept (c .before .memorize-name .ensures) (c .found .ensures))
+returns c =
+    let at-memorize-name = c .before in
+    let at-a = at-memorize-name .before .before .before in
+    λ types limit room d. follows-found (at-a .a .given .1) (name-kept (at-memorize-name .memorize-name .ensures types) (c .found .ensures))
 
 returns-2 : tie.Need-returns-2
-returns-2 c = λ limit room d. follows-refused (c .enum-told .given .1)
+returns-2 c = λ types limit room d. follows-refused (c .enum-told .given .1)
 
 pub memorized-spec : {M : Type 1} → statement M
 memorized-spec =

@@ -11,7 +11,7 @@ refused-requires : tie.Need-refused-requires
 refused-requires c κs = search needs
 
 returns : tie.Need-returns
-returns c = λ s. reads-deep (c .before .if1 .taken) (c .refused .ensures)
+returns c = λ s names types. reads-deep (c .before .if1 .taken) (c .refused .ensures)
 
 sub-opened : tie.Need-sub-opened
 sub-opened c = search needs
@@ -31,7 +31,7 @@ returns-2 c =
     let at-shut-leaf = c .before .before in
     let at-opened = at-shut-leaf .before in
     let at-if1 = at-opened .before .before in
-    λ s. reads-body (at-if1 .if1 .left) (at-opened .opened .ensures) (closes (at-shut-leaf .shut-leaf .ensures) refl refl)
+    λ s names types. reads-body (at-if1 .if1 .left) (at-opened .opened .ensures) (closes (at-shut-leaf .shut-leaf .ensures) refl refl)
 
 pub no-type-spec : {M : Type 1} → statement M
 no-type-spec =

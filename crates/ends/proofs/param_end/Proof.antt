@@ -30,11 +30,11 @@ returns c =
     let at-placed = c .before .before in
     let at-found = at-placed .before in
     let at-kept = at-found .before in
-    let at-a = at-kept .before .before .before .before in
-    λ d. follows-found (at-a .a .given .1) (does-here (does-kept (at-kept .kept .ensures) (follows-there (at-found .found .ensures) (at-placed .placed .ensures _ _))))
+    let at-a = at-kept .before .before .before .before .before in
+    λ names d. follows-found (at-a .a .given .1) (does-here (does-kept (at-kept .kept .ensures names) (follows-there (at-found .found .ensures) (at-placed .placed .ensures _ _ _ _))))
 
 returns-2 : tie.Need-returns-2
-returns-2 c = λ d. follows-refused (c .enum-told .given .1)
+returns-2 c = λ names d. follows-refused (c .enum-told .given .1)
 
 pub param-end-spec : {M : Type 1} → statement M
 param-end-spec =

@@ -36,14 +36,14 @@ returns c =
     let at-no-type = at-parsed .before .before .before .before in
     let at-a = at-no-type .before .before .before in
     let at-md5-symbol = at-a .before .before .before .before in
-    does-sub (does-part (at-md5-symbol .md5-symbol .ensures)) (at-a .a .given .1) (does-follows (does-part (at-no-type .no-type .ensures _)) (follows-tops (at-parsed .parsed .ensures) (λ n. closing-node refl refl)))
+    λ names types. does-sub (does-part (at-md5-symbol .md5-symbol .ensures names types)) (at-a .a .given .1) (does-follows (does-part (at-no-type .no-type .ensures _ names types)) (follows-tops (at-parsed .parsed .ensures) (λ n. closing-node refl refl)))
 
 same-length-2 : tie.Need-same-length-2
 same-length-2 c = c .before .before .before .before .md5-symbol .kept .1 .0
 
 returns-2 : tie.Need-returns-2
 unfolding parseOf
-returns-2 c = sub-refused (does-part (c .before .before .before .before .md5-symbol .ensures)) (c .enum-told .given .1)
+returns-2 c = λ names types. sub-refused (does-part (c .before .before .before .before .md5-symbol .ensures names types)) (c .enum-told .given .1)
 
 pub parse-md5-spec : {M : Type 1} → statement M
 parse-md5-spec =

@@ -13,7 +13,7 @@ found-requires : tie.Need-found-requires
 found-requires c κs = search needs
 
 returns : tie.Need-returns
-returns c = λ limit room d. follows-found (c .before .before .before .a .given .1) (stored-not (c .before .if1 .taken) (c .found .ensures))
+returns c = λ types limit room d. follows-found (c .before .before .before .a .given .1) (stored-not (c .before .if1 .taken) (c .found .ensures))
 
 memorize-name-requires : tie.Need-memorize-name-requires
 memorize-name-requires c κs = search needs
@@ -27,12 +27,12 @@ enum-told c = search needs
 returns-2 : tie.Need-returns-2
 returns-2 c =
     let at-memorize-name = c .before in
-    let at-if1 = at-memorize-name .before in
+    let at-if1 = at-memorize-name .before .before in
     let at-a = at-if1 .before .before in
-    λ limit room d. follows-found (at-a .a .given .1) (stored-so (at-if1 .if1 .left) (at-memorize-name .memorize-name .ensures) (c .found2 .ensures))
+    λ types limit room d. follows-found (at-a .a .given .1) (stored-so (at-if1 .if1 .left) (at-memorize-name .memorize-name .ensures types) (c .found2 .ensures))
 
 returns-3 : tie.Need-returns-3
-returns-3 c = λ limit room d. follows-refused (c .enum-told .given .1)
+returns-3 c = λ types limit room d. follows-refused (c .enum-told .given .1)
 
 pub stored-unless-spec : {M : Type 1} → statement M
 stored-unless-spec =

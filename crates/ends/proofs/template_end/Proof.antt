@@ -10,8 +10,8 @@ use Rattle.ends.proofs.template_end.Tie as tie
 enum-known-a : tie.Need-enum-known-a
 enum-known-a c = search needs
 
-with-memo-requires : tie.Need-with-memo-requires
-with-memo-requires c κs = search needs
+put-back-requires : tie.Need-put-back-requires
+put-back-requires c κs = search needs
 
 add-made : tie.Need-add-made
 add-made c = search needs
@@ -35,9 +35,9 @@ returns : tie.Need-returns
 returns c =
     let at-shut = c .before .before in
     let at-made = at-shut .before in
-    let at-with-memo = at-made .before in
-    let at-a = at-with-memo .before .before .before in
-    λ s d. follows-found (at-a .a .given .1) (does-set (at-with-memo .with-memo .ensures) refl (closes (at-shut .shut .ensures .0) (at-made .made .ensures) refl))
+    let at-put-back = at-made .before in
+    let at-a = at-put-back .before .before .before .before .before in
+    λ s d. follows-found (at-a .a .given .1) (does-set (at-put-back .put-back .ensures .0) (at-put-back .put-back .ensures .1 .0) (at-put-back .put-back .ensures .1 .1) (closes (at-shut .shut .ensures .0) (at-made .made .ensures) refl))
 
 returns-2 : tie.Need-returns-2
 returns-2 c = λ s d. follows-refused (c .enum-told .given .1)
@@ -47,7 +47,7 @@ template-end-spec =
     tie.close
     (tie.spec
     enum-known-a
-    with-memo-requires
+    put-back-requires
     add-made
     cast-made
     made-requires

@@ -49,7 +49,7 @@ module _ (t : ℕ) where
 
   pub dims-requires : lts.Need-dims-requires (claims t) (array-at t) array.Post
   dims-requires c κs =
-      let entry = c .before .before .before .before .before .before .before .before .before in
+      let entry = c .before .before .before .before .before .before .before .before .before .before .before in
       (omega (arith, entry .pre .0), entry .pre .1)
 
   pub enum-told : lts.Need-enum-told (claims t) (array-at t) array.Post
@@ -65,7 +65,7 @@ module _ (t : ℕ) where
   unfolding array
   returns-3 c =
       let at-dims = c .before .before in
-      let at-if2 = at-dims .before .before in
+      let at-if2 = at-dims .before .before .before .before in
       let at-if1 = at-if2 .before in
       let at-v = at-if1 .before .before in
       let at-number = at-v .before .before in

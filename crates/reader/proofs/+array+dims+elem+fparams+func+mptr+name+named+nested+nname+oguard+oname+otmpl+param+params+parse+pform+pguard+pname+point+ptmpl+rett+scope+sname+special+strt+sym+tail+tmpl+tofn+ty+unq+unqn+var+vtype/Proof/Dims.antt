@@ -2,7 +2,7 @@
 -- Assumes nothing.
 use Prim.Native.Nat.{ℕ, _-_}
 use mathlib.Core.Path.{_∙_}
-use Rattle.grammar.specs.Grammar.{Dimension, body, dimensions}
+use Rattle.grammar.specs.Grammar.{body, Dimension, dimensions}
 use Rattle.steps.specs.Does.{sized}
 use Rattle.steps.proofs.Laws.{does-follows, does-part, does-value, value-bad, reads-body}
 use Rattle.steps.proofs.More.{does-as, nested-last, nested-more, nested-deep}
@@ -29,7 +29,7 @@ module _ (t : ℕ) where
 
   pub elem-requires : lts.Need-elem-requires (claims t) (dims-at t) dims.Post
   elem-requires c κs =
-      let entry = c .before .before .before .before .before .before .before .before .before in
+      let entry = c .before .before .before .before .before .before .before .before .before .before .before in
       (omega (arith, entry .pre .0), entry .pre .1)
 
   pub array-end-requires : lts.Need-array-end-requires (claims t) (dims-at t) dims.Post
@@ -46,11 +46,11 @@ module _ (t : ℕ) where
   returns c =
       let at-array-end = c .before .before in
       let at-elem = at-array-end .before .before .before .before in
-      let at-if1 = at-elem .before .before in
+      let at-if1 = at-elem .before .before .before .before in
       let at-v = at-if1 .before .before in
       let at-number = at-v .before .before .before in
       let entry = at-number .before .before .before in
-      does-value (at-number .number .ensures) (at-v .v .given .1) (does-follows (does-as (nested-last (entry .args .dimension) (at-if1 .if1 .taken)) (at-elem .elem .ensures)) (at-array-end .array-end .ensures _ _))
+      does-value (at-number .number .ensures) (at-v .v .given .1) (does-follows (does-as (nested-last (entry .args .dimension) (at-if1 .if1 .taken)) (at-elem .elem .ensures)) (at-array-end .array-end .ensures _ _ _ _))
 
   pub refused-requires : lts.Need-refused-requires (claims t) (dims-at t) dims.Post
   refused-requires c κs = search needs
@@ -76,7 +76,7 @@ module _ (t : ℕ) where
 
   pub dims-requires : lts.Need-dims-requires (claims t) (dims-at t) dims.Post
   dims-requires c κs =
-      let at-if2 = c .before .before in
+      let at-if2 = c .before .before .before .before in
       let entry = at-if2 .before .before .before .before .before .before .before .before .before in
       (omega (arith, entry .pre .0, at-if2 .if2 .left), entry .pre .1)
 
@@ -101,12 +101,12 @@ module _ (t : ℕ) where
       let at-array-end2 = c .before .before in
       let at-dims = at-array-end2 .before .before .before .before in
       let at-opened = at-dims .before in
-      let at-if2 = at-opened .before .before in
+      let at-if2 = at-opened .before .before .before .before in
       let at-if1 = at-if2 .before in
       let at-v = at-if1 .before .before in
       let at-number = at-v .before .before .before in
       let entry = at-number .before .before .before in
-      does-value (at-number .number .ensures) (at-v .v .given .1) (does-follows (does-as (nested-more (entry .args .dimension) (at-if1 .if1 .left)) (does-part {tag = Dimension (entry .args .dimension - 1)} {v = sized} (reads-body (at-if2 .if2 .left) (at-opened .opened .ensures) (at-dims .dims .ensures)))) (at-array-end2 .array-end2 .ensures _ _))
+      does-value (at-number .number .ensures) (at-v .v .given .1) (does-follows (does-as (nested-more (entry .args .dimension) (at-if1 .if1 .left)) (does-part {tag = Dimension (entry .args .dimension - 1)} {v = sized} (reads-body (at-if2 .if2 .left) (at-opened .opened .ensures) (at-dims .dims .ensures)))) (at-array-end2 .array-end2 .ensures _ _ _ _))
 
   pub returns-4 : lts.Need-returns-4 (claims t) (dims-at t) dims.Post
   unfolding dimensions

@@ -25,7 +25,7 @@ module _ (t : ℕ) where
 
   pub vtype-requires : lts.Need-vtype-requires (claims t) (elem-at t) elem.Post
   vtype-requires c κs =
-      let entry = c .before .before .before .before .before .before .before in
+      let entry = c .before .before .before .before .before .before .before .before .before in
       (omega (arith, entry .pre .0), entry .pre .1)
 
   pub beside-requires : lts.Need-beside-requires (claims t) (elem-at t) elem.Post
@@ -44,7 +44,7 @@ module _ (t : ℕ) where
   unfolding element
   returns c =
       let at-vtype = c .before .before .before in
-      let at-v = at-vtype .before .before .before in
+      let at-v = at-vtype .before .before .before .before .before in
       let at-element-class = at-v .before .before in
       does-value (at-element-class .element-class .ensures) (at-v .v .given .1) (does-beside (at-vtype .vtype .ensures) (c .beside .ensures))
 

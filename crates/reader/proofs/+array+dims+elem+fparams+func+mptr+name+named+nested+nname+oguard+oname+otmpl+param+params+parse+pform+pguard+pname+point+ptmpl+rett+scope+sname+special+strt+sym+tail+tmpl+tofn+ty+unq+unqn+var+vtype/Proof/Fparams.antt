@@ -59,16 +59,16 @@ module _ (t : ℕ) where
       let at-literal-part = at-placed .before .before .before .before in
       let at-if1 = at-literal-part .before .before .before in
       let at-consume = at-if1 .before in
-      does-follows (on-there "X" (sym (at-consume .consume .ensures) ∙ at-if1 .if1 .taken) (does-follows (does-part (reads-opens NoParams (at-literal-part .literal-part .ensures (0 ∷ []) refl))) (at-placed .placed .ensures _ _))) (c .ended .ensures _ _ _ _)
+      does-follows (on-there "X" (sym (at-consume .consume .ensures) ∙ at-if1 .if1 .taken) (does-follows (does-part (reads-opens NoParams (at-literal-part .literal-part .ensures (0 ∷ []) _ _ refl))) (at-placed .placed .ensures _ _ _ _))) (c .ended .ensures _ _ _ _)
 
   pub params-requires : lts.Need-params-requires (claims t) (fparams-at t) fparams.Post
   params-requires c κs =
-      let entry = c .before .before .before .before .before .before .before in
+      let entry = c .before .before .before .before .before .before .before .before .before in
       (omega (arith, entry .pre .0), entry .pre .1)
 
   pub ended-requires-2 : lts.Need-ended-requires-2 (claims t) (fparams-at t) fparams.Post
   ended-requires-2 c κs =
-      let entry = c .before .before .before .before .before .before .before .before .before .before in
+      let entry = c .before .before .before .before .before .before .before .before .before .before .before .before in
       entry .pre .1
 
   pub same-length-2 : lts.Need-same-length-2 (claims t) (fparams-at t) fparams.Post
@@ -78,6 +78,6 @@ module _ (t : ℕ) where
   unfolding funcParams
   returns-2 c =
       let at-params = c .before .before .before in
-      let at-if1 = at-params .before .before in
+      let at-if1 = at-params .before .before .before .before in
       let at-consume = at-if1 .before in
       does-follows (on-absent "X" (sym (at-consume .consume .ensures) ∙ at-if1 .if1 .left) (at-params .params .ensures)) (c .ended2 .ensures _ _ _ _)

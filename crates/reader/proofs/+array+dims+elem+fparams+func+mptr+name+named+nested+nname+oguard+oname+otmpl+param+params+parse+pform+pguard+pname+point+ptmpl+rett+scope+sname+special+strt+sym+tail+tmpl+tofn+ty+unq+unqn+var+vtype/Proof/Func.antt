@@ -14,11 +14,13 @@ claims t = (function-head-reads.Asked, function-head-reads.Learnt, tail-below t,
 
 module _ (t : ℕ) where
   pub function-head-requires : lts.Need-function-head-requires (claims t) (func-at t) func.Post
-  function-head-requires c κs = c .before .before .before .pre .1
+  function-head-requires c κs =
+      let entry = c .before .before .before .before .before in
+      entry .pre .1
 
   pub tail-requires : lts.Need-tail-requires (claims t) (func-at t) func.Post
   tail-requires c κs =
-      let entry = c .before .before .before .before in
+      let entry = c .before .before .before .before .before .before in
       (omega (arith, entry .pre .0), entry .pre .1)
 
   pub same-length : lts.Need-same-length (claims t) (func-at t) func.Post

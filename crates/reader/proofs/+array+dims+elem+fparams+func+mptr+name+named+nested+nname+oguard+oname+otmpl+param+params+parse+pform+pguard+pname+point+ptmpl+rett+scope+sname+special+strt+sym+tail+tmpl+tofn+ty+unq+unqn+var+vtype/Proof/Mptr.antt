@@ -20,7 +20,7 @@ claims t = (name-below t, name.Post, pointer-head-reads.Asked, pointer-head-read
 module _ (t : ℕ) where
   pub name-requires : lts.Need-name-requires (claims t) (mptr-at t) mptr.Post
   name-requires c κs =
-      let entry = c .before .before .before in
+      let entry = c .before .before .before .before .before in
       (omega (arith, entry .pre .0), entry .pre .1)
 
   pub enum-known-a : lts.Need-enum-known-a (claims t) (mptr-at t) mptr.Post
@@ -28,12 +28,12 @@ module _ (t : ℕ) where
 
   pub pointer-head-requires : lts.Need-pointer-head-requires (claims t) (mptr-at t) mptr.Post
   pointer-head-requires c κs =
-      let entry = c .before .before .before .before .before .before .before .before .before .before in
+      let entry = c .before .before .before .before .before .before .before .before .before .before .before .before .before .before in
       entry .pre .1
 
   pub tail-requires : lts.Need-tail-requires (claims t) (mptr-at t) mptr.Post
   tail-requires c κs =
-      let entry = c .before .before .before .before .before .before .before .before .before .before .before in
+      let entry = c .before .before .before .before .before .before .before .before .before .before .before .before .before .before .before in
       (omega (arith, entry .pre .0), entry .pre .1)
 
   pub enum-told : lts.Need-enum-told (claims t) (mptr-at t) mptr.Post
@@ -42,7 +42,7 @@ module _ (t : ℕ) where
   pub same-length : lts.Need-same-length (claims t) (mptr-at t) mptr.Post
   same-length c =
       let at-tail = c .before .before in
-      let at-name = at-tail .before .before .before .before .before .before .before .before in
+      let at-name = at-tail .before .before .before .before .before .before .before .before .before .before in
       at-tail .tail .kept .1 .0 ∙ at-name .name .kept .1 .0
 
   pub returns : lts.Need-returns (claims t) (mptr-at t) mptr.Post
@@ -50,7 +50,7 @@ module _ (t : ℕ) where
   returns c =
       let at-tail = c .before .before in
       let at-pointer-head = at-tail .before in
-      let at-a = at-pointer-head .before .before .before in
+      let at-a = at-pointer-head .before .before .before .before .before in
       let at-name = at-a .before .before .before .before in
       does-sub (does-first (does-part (at-name .name .ensures))) (at-a .a .given .1) (does-leads (at-pointer-head .pointer-head .ensures) (at-tail .tail .ensures))
 

@@ -36,7 +36,7 @@ module _ (t : ℕ) where
 
   pub unqn-requires : lts.Need-unqn-requires (claims t) (name-at t) name.Post
   unqn-requires c κs =
-      let at-if1 = c .before .before in
+      let at-if1 = c .before .before .before .before in
       let entry = at-if1 .before .before .before in
       (omega (arith, entry .pre .0, at-if1 .if1 .left), entry .pre .1)
 
@@ -45,7 +45,7 @@ module _ (t : ℕ) where
 
   pub scope-requires : lts.Need-scope-requires (claims t) (name-at t) name.Post
   scope-requires c κs =
-      let at-if1 = c .before .before .before .before .before .before .before .before .before in
+      let at-if1 = c .before .before .before .before .before .before .before .before .before .before .before .before .before in
       let entry = at-if1 .before .before .before in
       (omega (arith, entry .pre .0, at-if1 .if1 .left), entry .pre .1)
 
@@ -71,7 +71,7 @@ module _ (t : ℕ) where
   same-length c =
       let at-over = c .before .before .before in
       let at-scope = at-over .before .before .before .before .before in
-      let at-unqn = at-scope .before .before .before .before .before .before .before in
+      let at-unqn = at-scope .before .before .before .before .before .before .before .before .before in
       at-over .over .kept .0 ∙ at-scope .scope .kept .1 .0 ∙ at-unqn .unqn .kept .1 .0
 
   pub returns-2 : lts.Need-returns-2 (claims t) (name-at t) name.Post
@@ -80,10 +80,10 @@ module _ (t : ℕ) where
       let at-over = c .before .before .before in
       let at-made = at-over .before in
       let at-scope = at-made .before .before .before .before in
-      let at-a = at-scope .before .before .before in
+      let at-a = at-scope .before .before .before .before .before in
       let at-unqn = at-a .before .before .before .before in
       let at-opened = at-unqn .before in
-      let at-if1 = at-opened .before .before in
+      let at-if1 = at-opened .before .before .before .before in
       reads-body (at-if1 .if1 .left) (at-opened .opened .ensures) (does-sub (at-unqn .unqn .ensures) (at-a .a .given .1) (does-assoc (does-beside (does-follows (at-scope .scope .ensures) (follows-tops (at-over .over .ensures) (λ l. closing-node (rw (at-made .made .ensures)) refl))) (c .beside .ensures))))
 
   pub same-length-2 : lts.Need-same-length-2 (claims t) (name-at t) name.Post
@@ -94,5 +94,5 @@ module _ (t : ℕ) where
   returns-3 c =
       let at-unqn = c .before .before .before .before in
       let at-opened = at-unqn .before in
-      let at-if1 = at-opened .before .before in
+      let at-if1 = at-opened .before .before .before .before in
       reads-body (at-if1 .if1 .left) (at-opened .opened .ensures) (sub-refused (at-unqn .unqn .ensures) (c .enum-told .given .1))

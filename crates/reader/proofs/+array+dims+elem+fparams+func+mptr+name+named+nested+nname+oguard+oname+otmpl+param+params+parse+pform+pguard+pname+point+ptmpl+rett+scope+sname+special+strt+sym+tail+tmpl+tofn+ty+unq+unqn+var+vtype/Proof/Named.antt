@@ -18,7 +18,7 @@ claims t = (name-below t, name.Post, above-reads.Asked, above-reads.Learnt)
 module _ (t : ℕ) where
   pub name-requires : lts.Need-name-requires (claims t) (named-at t) named.Post
   name-requires c κs =
-      let entry = c .before .before .before in
+      let entry = c .before .before .before .before .before in
       (omega (arith, entry .pre .0), entry .pre .1)
 
   pub above-requires : lts.Need-above-requires (claims t) (named-at t) named.Post

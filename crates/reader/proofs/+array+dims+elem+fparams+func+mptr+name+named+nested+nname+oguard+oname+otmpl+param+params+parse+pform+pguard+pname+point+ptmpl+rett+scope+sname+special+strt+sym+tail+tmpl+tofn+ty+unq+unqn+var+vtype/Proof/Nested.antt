@@ -51,7 +51,7 @@ module _ (t : ℕ) where
 
   pub parse-requires : lts.Need-parse-requires (claims t) (nested-at t) nested.Post
   parse-requires c κs =
-      let at-if1 = c .before .before .before .before .before .before in
+      let at-if1 = c .before .before .before .before .before .before .before .before in
       let entry = at-if1 .before .before .before in
       (omega (arith, entry .pre .0, at-if1 .if1 .left), entry .pre .1)
 
@@ -63,7 +63,7 @@ module _ (t : ℕ) where
 
   pub tmpl-requires : lts.Need-tmpl-requires (claims t) (nested-at t) nested.Post
   tmpl-requires c κs =
-      let at-if1 = c .before .before .before .before .before .before in
+      let at-if1 = c .before .before .before .before .before .before .before .before in
       let entry = at-if1 .before .before .before in
       (omega (arith, entry .pre .0, at-if1 .if1 .left), entry .pre .1)
 
@@ -85,11 +85,11 @@ module _ (t : ℕ) where
   pub returns-2 : lts.Need-returns-2 (claims t) (nested-at t) nested.Post
   unfolding body
   returns-2 c =
-      let at-f = c .before .before in
+      let at-f = c .before .before .before in
       let at-name-shape = at-f .before .before .before in
       let at-opened = at-name-shape .before in
       let at-if1 = at-opened .before in
-      reads-body (at-if1 .if1 .left) (at-opened .opened .ensures) (does-leads (at-name-shape .name-shape .ensures) (does-as (ap shapeName (at-f .f .given .1)) (does-finds (c .name-of .ensures))))
+      reads-body (at-if1 .if1 .left) (at-opened .opened .ensures) (does-leads (at-name-shape .name-shape .ensures) (does-as (ap shapeName (at-f .f .given .1)) (does-finds (c .name-of .ensures _ _))))
 
   pub same-length : lts.Need-same-length (claims t) (nested-at t) nested.Post
   same-length c =
@@ -102,24 +102,26 @@ module _ (t : ℕ) where
   returns-3 c =
       let at-above = c .before .before in
       let at-parse = at-above .before .before .before .before in
-      let at-enum-told = at-parse .before .before in
+      let at-enum-told = at-parse .before .before .before .before in
       let at-name-shape = at-enum-told .before .before .before in
       let at-opened = at-name-shape .before in
       let at-if1 = at-opened .before in
       reads-body (at-if1 .if1 .left) (at-opened .opened .ensures) (does-leads (at-name-shape .name-shape .ensures) (does-as (ap shapeName (at-enum-told .enum-told .given .1)) (does-follows (does-part (at-parse .parse .ensures)) (follows-tops (at-above .above .ensures) (λ n. closing-node refl refl)))))
 
   pub same-length-2 : lts.Need-same-length-2 (claims t) (nested-at t) nested.Post
-  same-length-2 c = c .before .before .before .before .tmpl .kept .1 .0
+  same-length-2 c =
+      let at-tmpl = c .before .before .before .before .before in
+      at-tmpl .tmpl .kept .1 .0
 
   pub returns-4 : lts.Need-returns-4 (claims t) (nested-at t) nested.Post
   unfolding body
   returns-4 c =
-      let at-tmpl = c .before .before .before .before in
-      let at-enum-told2 = at-tmpl .before .before in
+      let at-tmpl = c .before .before .before .before .before in
+      let at-enum-told2 = at-tmpl .before .before .before .before in
       let at-name-shape = at-enum-told2 .before .before .before in
       let at-opened = at-name-shape .before in
       let at-if1 = at-opened .before in
-      reads-body (at-if1 .if1 .left) (at-opened .opened .ensures) (does-leads (at-name-shape .name-shape .ensures) (does-as (ap shapeName (at-enum-told2 .enum-told2 .given .1)) (does-follows (at-tmpl .tmpl .ensures) (c .memorized .ensures _ _ _))))
+      reads-body (at-if1 .if1 .left) (at-opened .opened .ensures) (does-leads (at-name-shape .name-shape .ensures) (does-as (ap shapeName (at-enum-told2 .enum-told2 .given .1)) (does-follows (at-tmpl .tmpl .ensures) (c .memorized .ensures _ _ _ _))))
 
   pub same-length-3 : lts.Need-same-length-3 (claims t) (nested-at t) nested.Post
   same-length-3 c = c .before .before .leaf-name .kept .1 .0
@@ -128,11 +130,11 @@ module _ (t : ℕ) where
   unfolding body
   returns-5 c =
       let at-leaf-name = c .before .before in
-      let at-f2 = at-leaf-name .before .before .before in
+      let at-f2 = at-leaf-name .before .before .before .before in
       let at-name-shape = at-f2 .before .before .before in
       let at-opened = at-name-shape .before in
       let at-if1 = at-opened .before in
-      reads-body (at-if1 .if1 .left) (at-opened .opened .ensures) (does-leads (at-name-shape .name-shape .ensures) (does-as (ap shapeName (at-f2 .f2 .given .1)) (at-leaf-name .leaf-name .ensures _)))
+      reads-body (at-if1 .if1 .left) (at-opened .opened .ensures) (does-leads (at-name-shape .name-shape .ensures) (does-as (ap shapeName (at-f2 .f2 .given .1)) (at-leaf-name .leaf-name .ensures _ _)))
 
   pub returns-6 : lts.Need-returns-6 (claims t) (nested-at t) nested.Post
   unfolding body

@@ -30,14 +30,14 @@ module _ (t : ℕ) where
 
   pub nested-requires : lts.Need-nested-requires (claims t) (nname-at t) nname.Post
   nested-requires c κs =
-      let entry = c .before .before .before .before .before .before in
+      let entry = c .before .before .before .before .before .before .before .before in
       (omega (arith, entry .pre .0), entry .pre .1)
 
   pub returns : lts.Need-returns (claims t) (nname-at t) nname.Post
   returns c =
-      let at-v = c .before .before in
+      let at-v = c .before .before .before in
       let at-digit = at-v .before .before in
-      on-digit nameOf (at-digit .digit .ensures) (at-v .v .given .1) (does-finds (c .name-of .ensures))
+      on-digit nameOf (at-digit .digit .ensures) (at-v .v .given .1) (does-finds (c .name-of .ensures _ _))
 
   pub same-length : lts.Need-same-length (claims t) (nname-at t) nname.Post
   same-length c = c .before .before .nested .kept .1 .0
@@ -45,6 +45,6 @@ module _ (t : ℕ) where
   pub returns-2 : lts.Need-returns-2 (claims t) (nname-at t) nname.Post
   returns-2 c =
       let at-nested = c .before .before in
-      let at-enum-told = at-nested .before .before in
+      let at-enum-told = at-nested .before .before .before .before in
       let at-digit = at-enum-told .before .before in
       no-digit nameOf (at-digit .digit .ensures) (at-enum-told .enum-told .given .1) (does-part (at-nested .nested .ensures))

@@ -34,7 +34,7 @@ module _ (t : ℕ) where
 
   pub nname-requires : lts.Need-nname-requires (claims t) (oguard-at t) oguard.Post
   nname-requires c κs =
-      let at-if1 = c .before .before in
+      let at-if1 = c .before .before .before .before in
       let entry = at-if1 .before .before .before in
       (omega (arith, entry .pre .0, at-if1 .if1 .left), entry .pre .1)
 
@@ -43,7 +43,7 @@ module _ (t : ℕ) where
 
   pub scope-requires : lts.Need-scope-requires (claims t) (oguard-at t) oguard.Post
   scope-requires c κs =
-      let at-if1 = c .before .before .before .before .before .before .before .before .before in
+      let at-if1 = c .before .before .before .before .before .before .before .before .before .before .before .before .before in
       let entry = at-if1 .before .before .before in
       (omega (arith, entry .pre .0, at-if1 .if1 .left), entry .pre .1)
 
@@ -66,7 +66,7 @@ module _ (t : ℕ) where
   same-length c =
       let at-over = c .before .before in
       let at-scope = at-over .before .before .before .before .before in
-      let at-nname = at-scope .before .before .before .before .before .before .before in
+      let at-nname = at-scope .before .before .before .before .before .before .before .before .before in
       at-over .over .kept .0 ∙ at-scope .scope .kept .1 .0 ∙ at-nname .nname .kept .1 .0
 
   pub returns-2 : lts.Need-returns-2 (claims t) (oguard-at t) oguard.Post
@@ -75,10 +75,10 @@ module _ (t : ℕ) where
       let at-over = c .before .before in
       let at-made = at-over .before in
       let at-scope = at-made .before .before .before .before in
-      let at-a = at-scope .before .before .before in
+      let at-a = at-scope .before .before .before .before .before in
       let at-nname = at-a .before .before .before .before in
       let at-opened = at-nname .before in
-      let at-if1 = at-opened .before .before in
+      let at-if1 = at-opened .before .before .before .before in
       reads-body (at-if1 .if1 .left) (at-opened .opened .ensures) (does-sub (at-nname .nname .ensures) (at-a .a .given .1) (does-follows (at-scope .scope .ensures) (follows-tops (at-over .over .ensures) (λ l. closing-node (rw (at-made .made .ensures)) refl))))
 
   pub same-length-2 : lts.Need-same-length-2 (claims t) (oguard-at t) oguard.Post
@@ -89,5 +89,5 @@ module _ (t : ℕ) where
   returns-3 c =
       let at-nname = c .before .before .before .before in
       let at-opened = at-nname .before in
-      let at-if1 = at-opened .before .before in
+      let at-if1 = at-opened .before .before .before .before in
       reads-body (at-if1 .if1 .left) (at-opened .opened .ensures) (sub-refused (at-nname .nname .ensures) (c .enum-told .given .1))

@@ -30,7 +30,7 @@ module _ (t : ℕ) where
 
   pub tmpl-requires : lts.Need-tmpl-requires (claims t) (oname-at t) oname.Post
   tmpl-requires c κs =
-      let at-if1 = c .before .before in
+      let at-if1 = c .before .before .before .before in
       let entry = at-if1 .before .before .before in
       (omega (arith, entry .pre .0, at-if1 .if1 .left), entry .pre .1)
 
@@ -42,5 +42,5 @@ module _ (t : ℕ) where
   returns-2 c =
       let at-tmpl = c .before .before in
       let at-opened = at-tmpl .before in
-      let at-if1 = at-opened .before .before in
+      let at-if1 = at-opened .before .before .before .before in
       reads-body (at-if1 .if1 .left) (at-opened .opened .ensures) (at-tmpl .tmpl .ensures)

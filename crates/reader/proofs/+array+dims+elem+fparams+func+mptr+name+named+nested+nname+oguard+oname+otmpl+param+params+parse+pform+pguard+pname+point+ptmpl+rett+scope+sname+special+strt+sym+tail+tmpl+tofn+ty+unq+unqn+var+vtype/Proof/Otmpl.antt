@@ -32,7 +32,7 @@ module _ (t : ℕ) where
 
   pub oname-requires : lts.Need-oname-requires (claims t) (otmpl-at t) otmpl.Post
   oname-requires c κs =
-      let at-if1 = c .before .before in
+      let at-if1 = c .before .before .before .before in
       let entry = at-if1 .before .before .before in
       (omega (arith, entry .pre .0, at-if1 .if1 .left), entry .pre .1)
 
@@ -51,5 +51,5 @@ module _ (t : ℕ) where
       let at-above = c .before .before in
       let at-oname = at-above .before .before .before .before in
       let at-opened = at-oname .before in
-      let at-if1 = at-opened .before .before in
+      let at-if1 = at-opened .before .before .before .before in
       reads-body (at-if1 .if1 .left) (at-opened .opened .ensures) (does-follows (does-part (at-oname .oname .ensures)) (follows-tops (at-above .above .ensures) (λ n. closing-node refl refl)))

@@ -37,7 +37,7 @@ module _ (t : ℕ) where
 
   pub vtype-requires : lts.Need-vtype-requires (claims t) (param-at t) param.Post
   vtype-requires c κs =
-      let entry = c .before .before .before .before .before .before in
+      let entry = c .before .before .before .before .before .before .before .before in
       (omega (arith, entry .pre .0), entry .pre .1)
 
   pub param-end-requires : lts.Need-param-end-requires (claims t) (param-at t) param.Post
@@ -51,23 +51,23 @@ module _ (t : ℕ) where
   returns c =
       let at-placed = c .before .before in
       let at-type-of = at-placed .before in
-      let at-v = at-type-of .before .before .before in
+      let at-v = at-type-of .before .before .before .before in
       let at-digit = at-v .before .before in
       let entry = at-digit .before .before .before in
-      on-digit (storedParam (entry .args .last)) (at-digit .digit .ensures) (at-v .v .given .1) (does-follows (does-finds (at-type-of .type-of .ensures)) (at-placed .placed .ensures _ _))
+      on-digit (storedParam (entry .args .last)) (at-digit .digit .ensures) (at-v .v .given .1) (does-follows (does-finds (at-type-of .type-of .ensures _ _)) (at-placed .placed .ensures _ _ _ _))
 
   pub same-length-2 : lts.Need-same-length-2 (claims t) (param-at t) param.Post
   same-length-2 c =
       let at-param-end = c .before .before in
-      let at-vtype = at-param-end .before .before .before .before in
+      let at-vtype = at-param-end .before .before .before .before .before in
       at-param-end .param-end .kept .1 .0 ∙ at-vtype .vtype .kept .1 .0
 
   pub returns-2 : lts.Need-returns-2 (claims t) (param-at t) param.Post
   unfolding newParam
   returns-2 c =
       let at-param-end = c .before .before in
-      let at-vtype = at-param-end .before .before .before .before in
-      let at-enum-told = at-vtype .before .before in
+      let at-vtype = at-param-end .before .before .before .before .before in
+      let at-enum-told = at-vtype .before .before .before .before in
       let at-digit = at-enum-told .before .before in
       let entry = at-digit .before .before .before in
-      no-digit (storedParam (entry .args .last)) (at-digit .digit .ensures) (at-enum-told .enum-told .given .1) (does-here (does-follows (at-vtype .vtype .ensures) (at-param-end .param-end .ensures _)))
+      no-digit (storedParam (entry .args .last)) (at-digit .digit .ensures) (at-enum-told .enum-told .given .1) (does-here (does-follows (at-vtype .vtype .ensures) (at-param-end .param-end .ensures _ _)))

@@ -2,10 +2,9 @@
 -- Assumes nothing.
 use Prim.Native.Nat.{ℕ}
 use mathlib.Core.Path.{_∙_, _≡_, refl}
-use mathlib.Core.List.{List}
 use lib.ListN.{length}
 use Rattle.grammar.specs.Grammar.{params, paramsFrom}
-use Rattle.steps.specs.Does.{plain, Does}
+use Rattle.steps.specs.Does.{plain, Lent, lent, Does}
 use Rattle.steps.specs.declared.state.Got.{Got}
 use Rattle.steps.proofs.Laws.{does-sub, sub-refused}
 use Rattle.ends.proofs.Lists.{params-starts, params-ends, params-goes, params-out}
@@ -24,10 +23,10 @@ abbrev pub claims : ℕ → lts.Claims
 claims t = (turns-reads.Asked, turns-reads.Learnt, list-stops-reads.Asked, list-stops-reads.Learnt, list-end-reads.Asked, list-end-reads.Learnt, param-below t, param.Post, refused-reads.Asked, refused-reads.Learnt)
 
 abbrev pub Inv-loop : lts.InvT-loop
-Inv-loop s t₀ lim depth st₀ last₀ left₀ t st last left = (length t ≡ length t₀) × ((g : Got) (t′ : List ℕ) → Does s (lim .depth) (lim .room) depth (paramsFrom left last) st t plain g t′ → Does s (lim .depth) (lim .room) depth params st₀ t₀ plain g t′)
+Inv-loop s t₀ names₀ types₀ lim depth st₀ last₀ left₀ t names types st last left = (length t ≡ length t₀) × ((g : Got) (t′ : Lent) → Does s (lim .depth) (lim .room) depth (paramsFrom left last) st (lent t names types) plain g t′ → Does s (lim .depth) (lim .room) depth params st₀ (lent t₀ names₀ types₀) plain g t′)
 
 abbrev pub μ-loop : lts.MeasureT-loop
-μ-loop s t₀ lim depth st₀ last₀ left₀ t st last left = left
+μ-loop s t₀ names₀ types₀ lim depth st₀ last₀ left₀ t names types st last left = left
 
 module _ (t : ℕ) where
   pub turns-requires : lts.Need-turns-requires (claims t) (params-at t) params.Post Inv-loop μ-loop
@@ -57,11 +56,11 @@ module _ (t : ℕ) where
       let at-list-stops = at-if1 .before in
       let at-loop-test = at-list-stops .before in
       let at-loop = at-loop-test .before in
-      at-loop .loop .inv .1 _ _ (params-ends (at-loop .loop .left) (at-loop .loop .last) (at-loop-test .loop-test .taken) (at-list-stops .list-stops .ensures) (at-if1 .if1 .taken) (at-list-end .list-end .ensures))
+      at-loop .loop .inv .1 _ _ (params-ends (at-loop .loop .left) (at-loop .loop .last) (at-loop-test .loop-test .taken) (at-list-stops .list-stops .ensures) (at-if1 .if1 .taken) (at-list-end .list-end .ensures _ _))
 
   pub param-requires : lts.Need-param-requires (claims t) (params-at t) params.Post Inv-loop μ-loop
   param-requires c κs =
-      let entry = c .before .before .before .before .before .before .before .before in
+      let entry = c .before .before .before .before .before .before .before .before .before .before in
       (omega (arith, entry .pre .0), entry .pre .1)
 
   pub enum-known-a : lts.Need-enum-known-a (claims t) (params-at t) params.Post Inv-loop μ-loop
@@ -73,13 +72,13 @@ module _ (t : ℕ) where
   pub same-length-2 : lts.Need-same-length-2 (claims t) (params-at t) params.Post Inv-loop μ-loop
   same-length-2 c =
       let at-param = c .before .before .before .before in
-      let at-loop = at-param .before .before .before .before .before in
+      let at-loop = at-param .before .before .before .before .before .before .before in
       at-param .param .kept .1 .0 ∙ at-loop .loop .inv .0
 
   pub returns-2 : lts.Need-returns-2 (claims t) (params-at t) params.Post Inv-loop μ-loop
   returns-2 c =
       let at-param = c .before .before .before .before in
-      let at-if1 = at-param .before .before in
+      let at-if1 = at-param .before .before .before .before in
       let at-list-stops = at-if1 .before in
       let at-loop-test = at-list-stops .before in
       let at-loop = at-loop-test .before in
@@ -95,7 +94,7 @@ module _ (t : ℕ) where
   loop-again c =
       let at-a = c .before .before in
       let at-param = at-a .before .before .before .before in
-      let at-if1 = at-param .before .before in
+      let at-if1 = at-param .before .before .before .before in
       let at-list-stops = at-if1 .before in
       let at-loop-test = at-list-stops .before in
       let at-loop = at-loop-test .before in

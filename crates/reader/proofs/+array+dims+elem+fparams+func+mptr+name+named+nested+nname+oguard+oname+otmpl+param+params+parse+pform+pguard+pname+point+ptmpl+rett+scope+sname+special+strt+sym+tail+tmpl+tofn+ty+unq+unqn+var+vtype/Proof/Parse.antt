@@ -42,7 +42,7 @@ module _ (t : ℕ) where
 
   pub pform-requires : lts.Need-pform-requires (claims t) (parse-at t) parse.Post
   pform-requires c κs =
-      let at-if1 = c .before .before .before .before .before .before in
+      let at-if1 = c .before .before .before .before .before .before .before .before in
       let entry = at-if1 .before .before .before in
       (omega (arith, entry .pre .0, at-if1 .if1 .left), entry .pre .1)
 
@@ -59,7 +59,7 @@ module _ (t : ℕ) where
   unfolding body
   returns-2 c =
       let at-pform = c .before .before in
-      let at-enum-told = at-pform .before .before in
+      let at-enum-told = at-pform .before .before .before .before in
       let at-expect = at-enum-told .before .before in
       let at-opened = at-expect .before in
       let at-if1 = at-opened .before .before in

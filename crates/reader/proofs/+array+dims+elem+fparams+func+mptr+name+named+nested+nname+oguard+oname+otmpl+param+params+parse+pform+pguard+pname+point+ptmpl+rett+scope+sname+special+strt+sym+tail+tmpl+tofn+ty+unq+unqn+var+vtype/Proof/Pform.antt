@@ -36,7 +36,7 @@ module _ (t : ℕ) where
 
   pub pguard-requires : lts.Need-pguard-requires (claims t) (pform-at t) pform.Post
   pguard-requires c κs =
-      let entry = c .before .before .before .before .before .before .before in
+      let entry = c .before .before .before .before .before .before .before .before .before in
       (omega (arith, entry .pre .0), entry .pre .1)
 
   pub enum-told-3 : lts.Need-enum-told-3 (claims t) (pform-at t) pform.Post
@@ -44,7 +44,7 @@ module _ (t : ℕ) where
 
   pub ptmpl-requires : lts.Need-ptmpl-requires (claims t) (pform-at t) pform.Post
   ptmpl-requires c κs =
-      let entry = c .before .before .before .before .before .before .before in
+      let entry = c .before .before .before .before .before .before .before .before .before in
       (omega (arith, entry .pre .0), entry .pre .1)
 
   pub enum-told-4 : lts.Need-enum-told-4 (claims t) (pform-at t) pform.Post
@@ -52,7 +52,7 @@ module _ (t : ℕ) where
 
   pub pname-requires : lts.Need-pname-requires (claims t) (pform-at t) pform.Post
   pname-requires c κs =
-      let entry = c .before .before .before .before .before .before .before in
+      let entry = c .before .before .before .before .before .before .before .before .before in
       (omega (arith, entry .pre .0), entry .pre .1)
 
   pub same-length : lts.Need-same-length (claims t) (pform-at t) pform.Post
@@ -63,7 +63,7 @@ module _ (t : ℕ) where
       let at-parse-md5 = c .before .before in
       let at-enum-told = at-parse-md5 .before .before in
       let at-parse-form = at-enum-told .before .before .before in
-      does-leads (at-parse-form .parse-form .ensures) (does-as (ap parseOf (at-enum-told .enum-told .given .1)) (at-parse-md5 .parse-md5 .ensures))
+      does-leads (at-parse-form .parse-form .ensures) (does-as (ap parseOf (at-enum-told .enum-told .given .1)) (at-parse-md5 .parse-md5 .ensures _ _))
 
   pub same-length-2 : lts.Need-same-length-2 (claims t) (pform-at t) pform.Post
   same-length-2 c = c .before .before .pguard .kept .1 .0
@@ -71,7 +71,7 @@ module _ (t : ℕ) where
   pub returns-2 : lts.Need-returns-2 (claims t) (pform-at t) pform.Post
   returns-2 c =
       let at-pguard = c .before .before in
-      let at-enum-told2 = at-pguard .before .before in
+      let at-enum-told2 = at-pguard .before .before .before .before in
       let at-parse-form = at-enum-told2 .before .before .before in
       does-leads (at-parse-form .parse-form .ensures) (does-as (ap parseOf (at-enum-told2 .enum-told2 .given .1)) (at-pguard .pguard .ensures))
 
@@ -81,7 +81,7 @@ module _ (t : ℕ) where
   pub returns-3 : lts.Need-returns-3 (claims t) (pform-at t) pform.Post
   returns-3 c =
       let at-ptmpl = c .before .before in
-      let at-enum-told3 = at-ptmpl .before .before in
+      let at-enum-told3 = at-ptmpl .before .before .before .before in
       let at-parse-form = at-enum-told3 .before .before .before in
       does-leads (at-parse-form .parse-form .ensures) (does-as (ap parseOf (at-enum-told3 .enum-told3 .given .1)) (at-ptmpl .ptmpl .ensures))
 
@@ -91,6 +91,6 @@ module _ (t : ℕ) where
   pub returns-4 : lts.Need-returns-4 (claims t) (pform-at t) pform.Post
   returns-4 c =
       let at-pname = c .before .before in
-      let at-enum-told4 = at-pname .before .before in
+      let at-enum-told4 = at-pname .before .before .before .before in
       let at-parse-form = at-enum-told4 .before .before .before in
       does-leads (at-parse-form .parse-form .ensures) (does-as (ap parseOf (at-enum-told4 .enum-told4 .given .1)) (at-pname .pname .ensures))

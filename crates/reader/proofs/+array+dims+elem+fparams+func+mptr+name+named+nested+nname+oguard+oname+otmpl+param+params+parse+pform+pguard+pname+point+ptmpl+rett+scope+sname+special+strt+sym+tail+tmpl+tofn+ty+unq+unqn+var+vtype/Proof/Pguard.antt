@@ -29,7 +29,7 @@ module _ (t : ℕ) where
 
   pub oguard-requires : lts.Need-oguard-requires (claims t) (pguard-at t) pguard.Post
   oguard-requires c κs =
-      let entry = c .before .before .before .before .before .before .before in
+      let entry = c .before .before .before .before .before .before .before .before .before in
       (omega (arith, entry .pre .0), entry .pre .1)
 
   pub enum-known-a : lts.Need-enum-known-a (claims t) (pguard-at t) pguard.Post
@@ -40,7 +40,7 @@ module _ (t : ℕ) where
 
   pub literal-part-requires : lts.Need-literal-part-requires (claims t) (pguard-at t) pguard.Post
   literal-part-requires c κs =
-      let entry = c .before .before .before .before .before .before .before .before .before .before .before .before .before .before .before in
+      let entry = c .before .before .before .before .before .before .before .before .before .before .before .before .before .before .before .before .before in
       entry .pre .1
 
   pub parsed-requires : lts.Need-parsed-requires (claims t) (pguard-at t) pguard.Post
@@ -69,9 +69,9 @@ module _ (t : ℕ) where
       let at-literal-part = at-parsed .before .before .before .before in
       let at-a = at-literal-part .before .before .before .before in
       let at-oguard = at-a .before .before .before .before in
-      let at-v = at-oguard .before .before .before in
+      let at-v = at-oguard .before .before .before .before .before in
       let at-guard-number = at-v .before .before in
-      does-value (at-guard-number .guard-number .ensures) (at-v .v .given .1) (does-sub (does-part (at-oguard .oguard .ensures)) (at-a .a .given .1) (does-follows (does-part (reads-opens (GuardType _) (at-literal-part .literal-part .ensures (_ ∷ []) refl))) (follows-tops (at-parsed .parsed .ensures) (λ n. closing-node refl refl))))
+      does-value (at-guard-number .guard-number .ensures) (at-v .v .given .1) (does-sub (does-part (at-oguard .oguard .ensures)) (at-a .a .given .1) (does-follows (does-part (reads-opens (GuardType _) (at-literal-part .literal-part .ensures (_ ∷ []) _ _ refl))) (follows-tops (at-parsed .parsed .ensures) (λ n. closing-node refl refl))))
 
   pub same-length-2 : lts.Need-same-length-2 (claims t) (pguard-at t) pguard.Post
   same-length-2 c = c .before .before .before .before .oguard .kept .1 .0
@@ -80,7 +80,7 @@ module _ (t : ℕ) where
   unfolding parseOf
   returns-2 c =
       let at-oguard = c .before .before .before .before in
-      let at-v = at-oguard .before .before .before in
+      let at-v = at-oguard .before .before .before .before .before in
       let at-guard-number = at-v .before .before in
       does-value (at-guard-number .guard-number .ensures) (at-v .v .given .1) (sub-refused (does-part (at-oguard .oguard .ensures)) (c .enum-told .given .1))
 

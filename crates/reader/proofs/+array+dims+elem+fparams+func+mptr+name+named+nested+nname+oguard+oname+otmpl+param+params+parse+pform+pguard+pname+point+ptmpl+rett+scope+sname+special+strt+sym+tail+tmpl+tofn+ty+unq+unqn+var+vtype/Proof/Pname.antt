@@ -21,7 +21,7 @@ claims t = (name-below t, name.Post, guard-index-reads.Asked, guard-index-reads.
 module _ (t : ℕ) where
   pub name-requires : lts.Need-name-requires (claims t) (pname-at t) pname.Post
   name-requires c κs =
-      let entry = c .before .before .before in
+      let entry = c .before .before .before .before .before in
       (omega (arith, entry .pre .0), entry .pre .1)
 
   pub enum-known-a : lts.Need-enum-known-a (claims t) (pname-at t) pname.Post
@@ -29,7 +29,7 @@ module _ (t : ℕ) where
 
   pub guard-index-requires : lts.Need-guard-index-requires (claims t) (pname-at t) pname.Post
   guard-index-requires c κs =
-      let entry = c .before .before .before .before .before .before .before .before .before in
+      let entry = c .before .before .before .before .before .before .before .before .before .before .before in
       entry .pre .1
 
   pub enum-known-v : lts.Need-enum-known-v (claims t) (pname-at t) pname.Post
@@ -37,7 +37,7 @@ module _ (t : ℕ) where
 
   pub sym-requires : lts.Need-sym-requires (claims t) (pname-at t) pname.Post
   sym-requires c κs =
-      let entry = c .before .before .before .before .before .before .before .before .before .before .before .before .before .before in
+      let entry = c .before .before .before .before .before .before .before .before .before .before .before .before .before .before .before .before .before .before in
       (omega (arith, entry .pre .0), entry .pre .1)
 
   pub parsed-requires : lts.Need-parsed-requires (claims t) (pname-at t) pname.Post
@@ -56,7 +56,7 @@ module _ (t : ℕ) where
   same-length c =
       let at-parsed = c .before .before in
       let at-sym = at-parsed .before .before .before .before in
-      let at-name = at-sym .before .before .before .before .before .before .before .before .before .before .before in
+      let at-name = at-sym .before .before .before .before .before .before .before .before .before .before .before .before .before in
       at-parsed .parsed .kept .0 ∙ at-sym .sym .kept .1 .0 ∙ at-name .name .kept .1 .0
 
   pub returns : lts.Need-returns (claims t) (pname-at t) pname.Post
@@ -64,7 +64,7 @@ module _ (t : ℕ) where
   returns c =
       let at-parsed = c .before .before in
       let at-sym = at-parsed .before .before .before .before in
-      let at-v = at-sym .before .before .before in
+      let at-v = at-sym .before .before .before .before .before in
       let at-guard-index = at-v .before .before in
       let at-a = at-guard-index .before .before in
       let at-name = at-a .before .before .before .before in

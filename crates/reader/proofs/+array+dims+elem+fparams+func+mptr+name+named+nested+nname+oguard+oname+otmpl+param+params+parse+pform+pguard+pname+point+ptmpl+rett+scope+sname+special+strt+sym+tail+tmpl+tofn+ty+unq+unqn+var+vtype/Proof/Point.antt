@@ -22,7 +22,7 @@ module _ (t : ℕ) where
 
   pub vtype-requires : lts.Need-vtype-requires (claims t) (point-at t) point.Post
   vtype-requires c κs =
-      let entry = c .before .before .before .before in
+      let entry = c .before .before .before .before .before .before in
       (omega (arith, entry .pre .0), entry .pre .1)
 
   pub above-requires : lts.Need-above-requires (claims t) (point-at t) point.Post
@@ -39,5 +39,5 @@ module _ (t : ℕ) where
   returns c =
       let at-above = c .before .before in
       let at-vtype = at-above .before .before .before .before in
-      let at-pointee-class = at-vtype .before .before in
+      let at-pointee-class = at-vtype .before .before .before .before in
       does-follows (does-class (at-pointee-class .pointee-class .ensures) (at-vtype .vtype .ensures)) (follows-tops (at-above .above .ensures) (λ n. closing-node refl refl))

@@ -19,7 +19,7 @@ claims t = (otmpl-below t, otmpl.Post, no-type-reads.Asked, no-type-reads.Learnt
 module _ (t : ℕ) where
   pub otmpl-requires : lts.Need-otmpl-requires (claims t) (ptmpl-at t) ptmpl.Post
   otmpl-requires c κs =
-      let entry = c .before .before .before in
+      let entry = c .before .before .before .before .before in
       (omega (arith, entry .pre .0), entry .pre .1)
 
   pub enum-known-a : lts.Need-enum-known-a (claims t) (ptmpl-at t) ptmpl.Post
@@ -48,7 +48,7 @@ module _ (t : ℕ) where
       let at-no-type = at-parsed .before .before .before .before in
       let at-a = at-no-type .before .before .before in
       let at-otmpl = at-a .before .before .before .before in
-      does-sub (does-part (at-otmpl .otmpl .ensures)) (at-a .a .given .1) (does-follows (does-part (at-no-type .no-type .ensures _)) (follows-tops (at-parsed .parsed .ensures) (λ n. closing-node refl refl)))
+      does-sub (does-part (at-otmpl .otmpl .ensures)) (at-a .a .given .1) (does-follows (does-part (at-no-type .no-type .ensures _ _ _)) (follows-tops (at-parsed .parsed .ensures) (λ n. closing-node refl refl)))
 
   pub same-length-2 : lts.Need-same-length-2 (claims t) (ptmpl-at t) ptmpl.Post
   same-length-2 c = c .before .before .before .before .otmpl .kept .1 .0

@@ -18,7 +18,7 @@ claims t = (strt-below t, strt.Post, vtype-below t, vtype.Post)
 module _ (t : ℕ) where
   pub strt-requires : lts.Need-strt-requires (claims t) (rett-at t) rett.Post
   strt-requires c κs =
-      let entry = c .before .before .before .before in
+      let entry = c .before .before .before .before .before .before in
       (omega (arith, entry .pre .0), entry .pre .1)
 
   pub same-length : lts.Need-same-length (claims t) (rett-at t) rett.Post
@@ -27,13 +27,13 @@ module _ (t : ℕ) where
   pub returns : lts.Need-returns (claims t) (rett-at t) rett.Post
   returns c =
       let at-strt = c .before .before in
-      let at-if1 = at-strt .before .before in
+      let at-if1 = at-strt .before .before .before .before in
       let entry = at-if1 .before .before .before in
       does-as (ap (λ (b : Bool). returned b (entry .args .sc)) (at-if1 .if1 .taken)) (at-strt .strt .ensures)
 
   pub vtype-requires : lts.Need-vtype-requires (claims t) (rett-at t) rett.Post
   vtype-requires c κs =
-      let entry = c .before .before .before .before in
+      let entry = c .before .before .before .before .before .before in
       (omega (arith, entry .pre .0), entry .pre .1)
 
   pub same-length-2 : lts.Need-same-length-2 (claims t) (rett-at t) rett.Post
@@ -42,6 +42,6 @@ module _ (t : ℕ) where
   pub returns-2 : lts.Need-returns-2 (claims t) (rett-at t) rett.Post
   returns-2 c =
       let at-vtype = c .before .before in
-      let at-if1 = at-vtype .before .before in
+      let at-if1 = at-vtype .before .before .before .before in
       let entry = at-if1 .before .before .before in
       does-as (ap (λ (b : Bool). returned b (entry .args .sc)) (at-if1 .if1 .left)) (at-vtype .vtype .ensures)

@@ -2,10 +2,9 @@
 -- Assumes nothing.
 use Prim.Native.Nat.{ℕ}
 use mathlib.Core.Path.{_∙_, _≡_, refl}
-use mathlib.Core.List.{List}
 use lib.ListN.{length}
 use Rattle.grammar.specs.Grammar.{scope, scopeFrom}
-use Rattle.steps.specs.Does.{plain, Does}
+use Rattle.steps.specs.Does.{plain, Lent, lent, Does}
 use Rattle.steps.specs.declared.state.Got.{Got}
 use Rattle.steps.proofs.Laws.{does-sub, sub-refused}
 use Rattle.ends.proofs.Lists.{scope-starts, scope-ends, scope-goes, scope-out}
@@ -24,10 +23,10 @@ abbrev pub claims : ℕ → lts.Claims
 claims t = (turns-reads.Asked, turns-reads.Learnt, expect-reads.Asked, expect-reads.Learnt, found-reads.Asked, found-reads.Learnt, sname-below t, sname.Post, refused-reads.Asked, refused-reads.Learnt)
 
 abbrev pub Inv-loop : lts.InvT-loop
-Inv-loop s t₀ lim depth st₀ last₀ left₀ t15 t st last left = (length t ≡ length t₀) × ((g : Got) (t′ : List ℕ) → Does s (lim .depth) (lim .room) depth (scopeFrom left last) st t plain g t′ → Does s (lim .depth) (lim .room) depth scope st₀ t₀ plain g t′)
+Inv-loop s t₀ names₀ types₀ lim depth st₀ last₀ left₀ t17 t names types st last left = (length t ≡ length t₀) × ((g : Got) (t′ : Lent) → Does s (lim .depth) (lim .room) depth (scopeFrom left last) st (lent t names types) plain g t′ → Does s (lim .depth) (lim .room) depth scope st₀ (lent t₀ names₀ types₀) plain g t′)
 
 abbrev pub μ-loop : lts.MeasureT-loop
-μ-loop s t₀ lim depth st₀ last₀ left₀ t15 t st last left = left
+μ-loop s t₀ names₀ types₀ lim depth st₀ last₀ left₀ t17 t names types st last left = left
 
 module _ (t : ℕ) where
   pub turns-requires : lts.Need-turns-requires (claims t) (scope-at t) scope.Post Inv-loop μ-loop
@@ -68,7 +67,7 @@ module _ (t : ℕ) where
 
   pub sname-requires : lts.Need-sname-requires (claims t) (scope-at t) scope.Post Inv-loop μ-loop
   sname-requires c κs =
-      let entry = c .before .before .before .before .before .before .before .before .before .before in
+      let entry = c .before .before .before .before .before .before .before .before .before .before .before .before in
       (omega (arith, entry .pre .0), entry .pre .1)
 
   pub enum-known-a : lts.Need-enum-known-a (claims t) (scope-at t) scope.Post Inv-loop μ-loop
@@ -80,13 +79,13 @@ module _ (t : ℕ) where
   pub same-length-2 : lts.Need-same-length-2 (claims t) (scope-at t) scope.Post Inv-loop μ-loop
   same-length-2 c =
       let at-sname = c .before .before .before .before in
-      let at-loop = at-sname .before .before .before .before .before .before .before in
+      let at-loop = at-sname .before .before .before .before .before .before .before .before .before in
       at-sname .sname .kept .1 .0 ∙ at-loop .loop .inv .0
 
   pub returns-2 : lts.Need-returns-2 (claims t) (scope-at t) scope.Post Inv-loop μ-loop
   returns-2 c =
       let at-sname = c .before .before .before .before in
-      let at-enum-told2 = at-sname .before .before in
+      let at-enum-told2 = at-sname .before .before .before .before in
       let at-expect = at-enum-told2 .before .before in
       let at-loop-test = at-expect .before .before in
       let at-loop = at-loop-test .before in
@@ -102,7 +101,7 @@ module _ (t : ℕ) where
   loop-again c =
       let at-a = c .before .before in
       let at-sname = at-a .before .before .before .before in
-      let at-enum-told2 = at-sname .before .before in
+      let at-enum-told2 = at-sname .before .before .before .before in
       let at-expect = at-enum-told2 .before .before in
       let at-loop-test = at-expect .before .before in
       let at-loop = at-loop-test .before in

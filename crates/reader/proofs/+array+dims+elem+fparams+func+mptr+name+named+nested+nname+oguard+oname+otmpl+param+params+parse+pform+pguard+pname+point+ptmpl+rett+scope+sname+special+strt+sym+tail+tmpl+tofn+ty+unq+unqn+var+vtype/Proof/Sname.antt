@@ -17,7 +17,7 @@ claims t = (nname-below t, nname.Post, placed-reads.Asked, placed-reads.Learnt)
 module _ (t : ℕ) where
   pub nname-requires : lts.Need-nname-requires (claims t) (sname-at t) sname.Post
   nname-requires c κs =
-      let entry = c .before .before .before in
+      let entry = c .before .before .before .before .before in
       (omega (arith, entry .pre .0), entry .pre .1)
 
   pub placed-requires : lts.Need-placed-requires (claims t) (sname-at t) sname.Post
@@ -33,4 +33,4 @@ module _ (t : ℕ) where
   returns c =
       let at-placed = c .before .before in
       let at-nname = at-placed .before .before .before .before in
-      does-follows (at-nname .nname .ensures) (at-placed .placed .ensures _ _)
+      does-follows (at-nname .nname .ensures) (at-placed .placed .ensures _ _ _ _)

@@ -43,7 +43,7 @@ module _ (t : ℕ) where
 
   pub vtype-requires : lts.Need-vtype-requires (claims t) (special-at t) special.Post
   vtype-requires c κs =
-      let entry = c .before .before .before .before .before .before .before .before in
+      let entry = c .before .before .before .before .before .before .before .before .before .before in
       (omega (arith, entry .pre .0), entry .pre .1)
 
   pub above-requires : lts.Need-above-requires (claims t) (special-at t) special.Post
@@ -88,7 +88,7 @@ module _ (t : ℕ) where
   returns-2 c =
       let at-above = c .before .before .before in
       let at-vtype = at-above .before .before .before .before in
-      let at-f2 = at-vtype .before .before .before in
+      let at-f2 = at-vtype .before .before .before .before .before in
       let at-special-shape = at-f2 .before .before .before in
       does-leads (at-special-shape .special-shape .ensures) (does-as (ap shapeSpecial (at-f2 .f2 .given .1)) (does-beside (does-follows (at-vtype .vtype .ensures) (follows-tops (at-above .above .ensures) (λ n. closing-node refl refl))) (c .beside2 .ensures)))
 

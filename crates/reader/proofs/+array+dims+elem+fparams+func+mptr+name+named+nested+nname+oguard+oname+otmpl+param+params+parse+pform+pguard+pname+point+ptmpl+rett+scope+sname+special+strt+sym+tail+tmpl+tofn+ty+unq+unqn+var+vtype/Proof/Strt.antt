@@ -45,11 +45,11 @@ module _ (t : ℕ) where
       let at-literal-part = c .before .before in
       let at-if1 = at-literal-part .before .before .before in
       let at-consume = at-if1 .before in
-      on-there "@" (sym (at-consume .consume .ensures) ∙ at-if1 .if1 .taken) (does-part (reads-opens NoReturn (at-literal-part .literal-part .ensures [] refl)))
+      on-there "@" (sym (at-consume .consume .ensures) ∙ at-if1 .if1 .taken) (does-part (reads-opens NoReturn (at-literal-part .literal-part .ensures [] _ _ refl)))
 
   pub vtype-requires : lts.Need-vtype-requires (claims t) (strt-at t) strt.Post
   vtype-requires c κs =
-      let entry = c .before .before .before .before .before .before .before in
+      let entry = c .before .before .before .before .before .before .before .before .before in
       (omega (arith, entry .pre .0), entry .pre .1)
 
   pub same-length-2 : lts.Need-same-length-2 (claims t) (strt-at t) strt.Post
@@ -59,6 +59,6 @@ module _ (t : ℕ) where
   unfolding funcReturnType
   returns-2 c =
       let at-vtype = c .before .before in
-      let at-if1 = at-vtype .before .before in
+      let at-if1 = at-vtype .before .before .before .before in
       let at-consume = at-if1 .before in
       on-absent "@" (sym (at-consume .consume .ensures) ∙ at-if1 .if1 .left) (at-vtype .vtype .ensures)

@@ -45,7 +45,7 @@ module _ (t : ℕ) where
 
   pub var-requires : lts.Need-var-requires (claims t) (sym-at t) sym.Post
   var-requires c κs =
-      let at-if1 = c .before .before .before .before .before .before .before in
+      let at-if1 = c .before .before .before .before .before .before .before .before .before in
       let entry = at-if1 .before .before .before in
       (omega (arith, entry .pre .0, at-if1 .if1 .left), entry .pre .1)
 
@@ -54,7 +54,7 @@ module _ (t : ℕ) where
 
   pub scope-requires : lts.Need-scope-requires (claims t) (sym-at t) sym.Post
   scope-requires c κs =
-      let at-if1 = c .before .before .before .before .before .before .before in
+      let at-if1 = c .before .before .before .before .before .before .before .before .before in
       let entry = at-if1 .before .before .before in
       (omega (arith, entry .pre .0, at-if1 .if1 .left), entry .pre .1)
 
@@ -66,12 +66,12 @@ module _ (t : ℕ) where
 
   pub symbol-head-requires : lts.Need-symbol-head-requires (claims t) (sym-at t) sym.Post
   symbol-head-requires c κs =
-      let entry = c .before .before .before .before .before .before .before .before .before .before in
+      let entry = c .before .before .before .before .before .before .before .before .before .before .before .before in
       entry .pre .1
 
   pub tail-requires : lts.Need-tail-requires (claims t) (sym-at t) sym.Post
   tail-requires c κs =
-      let at-if1 = c .before .before .before .before .before .before .before .before in
+      let at-if1 = c .before .before .before .before .before .before .before .before .before .before in
       let entry = at-if1 .before .before .before in
       (omega (arith, entry .pre .0, at-if1 .if1 .left), entry .pre .1)
 
@@ -94,7 +94,7 @@ module _ (t : ℕ) where
   unfolding body
   returns-2 c =
       let at-var = c .before .before in
-      let at-f = at-var .before .before .before in
+      let at-f = at-var .before .before .before .before .before in
       let at-symbol-shape = at-f .before .before .before in
       let at-opened = at-symbol-shape .before in
       let at-if1 = at-opened .before in
@@ -111,7 +111,7 @@ module _ (t : ℕ) where
   returns-3 c =
       let at-table-end = c .before .before in
       let at-scope = at-table-end .before .before .before .before in
-      let at-f2 = at-scope .before .before .before in
+      let at-f2 = at-scope .before .before .before .before .before in
       let at-symbol-shape = at-f2 .before .before .before in
       let at-opened = at-symbol-shape .before in
       let at-if1 = at-opened .before in
@@ -125,7 +125,7 @@ module _ (t : ℕ) where
   returns-4 c =
       let at-tail = c .before .before in
       let at-symbol-head = at-tail .before in
-      let at-f3 = at-symbol-head .before .before .before in
+      let at-f3 = at-symbol-head .before .before .before .before .before in
       let at-symbol-shape = at-f3 .before .before .before in
       let at-opened = at-symbol-shape .before in
       let at-if1 = at-opened .before in

@@ -21,7 +21,7 @@ claims t = (rett-below t, rett.Post, fparams-below t, fparams.Post, made-reads.A
 module _ (t : ℕ) where
   pub rett-requires : lts.Need-rett-requires (claims t) (tail-at t) tail.Post
   rett-requires c κs =
-      let entry = c .before .before .before .before .before .before in
+      let entry = c .before .before .before .before .before .before .before .before in
       (omega (arith, entry .pre .0), entry .pre .1)
 
   pub enum-known-a : lts.Need-enum-known-a (claims t) (tail-at t) tail.Post
@@ -29,7 +29,7 @@ module _ (t : ℕ) where
 
   pub fparams-requires : lts.Need-fparams-requires (claims t) (tail-at t) tail.Post
   fparams-requires c κs =
-      let entry = c .before .before .before .before .before .before .before .before .before .before .before .before .before in
+      let entry = c .before .before .before .before .before .before .before .before .before .before .before .before .before .before .before .before .before in
       (omega (arith, entry .pre .0), entry .pre .1)
 
   pub cast-made : lts.Need-cast-made (claims t) (tail-at t) tail.Post
@@ -51,7 +51,7 @@ module _ (t : ℕ) where
   same-length c =
       let at-over = c .before .before in
       let at-fparams = at-over .before .before .before .before .before in
-      let at-rett = at-fparams .before .before .before .before .before .before .before in
+      let at-rett = at-fparams .before .before .before .before .before .before .before .before .before in
       at-over .over .kept .0 ∙ at-fparams .fparams .kept .1 .0 ∙ at-rett .rett .kept .1 .0
 
   pub returns : lts.Need-returns (claims t) (tail-at t) tail.Post
@@ -59,9 +59,9 @@ module _ (t : ℕ) where
       let at-over = c .before .before in
       let at-made = at-over .before in
       let at-fparams = at-made .before .before .before .before in
-      let at-a = at-fparams .before .before .before in
+      let at-a = at-fparams .before .before .before .before .before in
       let at-rett = at-a .before .before .before .before in
-      let at-if1 = at-rett .before .before in
+      let at-if1 = at-rett .before .before .before .before in
       let entry = at-if1 .before .before .before .before .before in
       head-good (entry .args .h) (at-if1 .if1 .taken) (does-sub (at-rett .rett .ensures) (at-a .a .given .1) (does-follows (at-fparams .fparams .ensures) (follows-tops (at-over .over .ensures) (λ l. closing-node (rw (at-made .made .ensures)) refl))))
 
@@ -71,7 +71,7 @@ module _ (t : ℕ) where
   pub returns-2 : lts.Need-returns-2 (claims t) (tail-at t) tail.Post
   returns-2 c =
       let at-rett = c .before .before .before .before in
-      let at-if1 = at-rett .before .before in
+      let at-if1 = at-rett .before .before .before .before in
       let entry = at-if1 .before .before .before .before .before in
       head-good (entry .args .h) (at-if1 .if1 .taken) (sub-refused (at-rett .rett .ensures) (c .enum-told .given .1))
 

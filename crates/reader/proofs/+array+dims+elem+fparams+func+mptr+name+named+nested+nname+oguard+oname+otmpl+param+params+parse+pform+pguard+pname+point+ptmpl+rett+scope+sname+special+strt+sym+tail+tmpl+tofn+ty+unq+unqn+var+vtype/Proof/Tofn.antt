@@ -2,7 +2,7 @@
 -- Assumes nothing.
 use Prim.Native.Nat.{ℕ}
 use mathlib.Core.Path.{_∙_, refl}
-use Rattle.grammar.specs.Grammar.{Func, body}
+use Rattle.grammar.specs.Grammar.{body, Func}
 use Rattle.steps.specs.Does.{plain}
 use Rattle.steps.proofs.Laws.{does-follows, does-part, reads-body, closing-node, follows-tops}
 use Rattle.steps.proofs.More.{part-deep}
@@ -34,7 +34,7 @@ module _ (t : ℕ) where
 
   pub func-requires : lts.Need-func-requires (claims t) (tofn-at t) tofn.Post
   func-requires c κs =
-      let at-if1 = c .before .before in
+      let at-if1 = c .before .before .before .before in
       let entry = at-if1 .before .before .before in
       (omega (arith, entry .pre .0, at-if1 .if1 .left), entry .pre .1)
 
@@ -53,5 +53,5 @@ module _ (t : ℕ) where
       let at-above = c .before .before in
       let at-func = at-above .before .before .before .before in
       let at-opened = at-func .before in
-      let at-if1 = at-opened .before .before in
+      let at-if1 = at-opened .before .before .before .before in
       does-follows (does-part {tag = Func} {v = plain} (reads-body {tag = Func} {v = plain} (at-if1 .if1 .left) (at-opened .opened .ensures) (at-func .func .ensures))) (follows-tops (at-above .above .ensures) (λ n. closing-node refl refl))

@@ -46,7 +46,7 @@ module _ (t : ℕ) where
 
   pub named-requires : lts.Need-named-requires (claims t) (ty-at t) ty.Post
   named-requires c κs =
-      let at-if1 = c .before .before .before .before .before .before .before in
+      let at-if1 = c .before .before .before .before .before .before .before .before .before in
       let entry = at-if1 .before .before .before in
       (omega (arith, entry .pre .0, at-if1 .if1 .left), entry .pre .1)
 
@@ -55,7 +55,7 @@ module _ (t : ℕ) where
 
   pub point-requires : lts.Need-point-requires (claims t) (ty-at t) ty.Post
   point-requires c κs =
-      let at-if1 = c .before .before .before .before .before .before .before in
+      let at-if1 = c .before .before .before .before .before .before .before .before .before in
       let entry = at-if1 .before .before .before in
       (omega (arith, entry .pre .0, at-if1 .if1 .left), entry .pre .1)
 
@@ -64,7 +64,7 @@ module _ (t : ℕ) where
 
   pub tofn-requires : lts.Need-tofn-requires (claims t) (ty-at t) ty.Post
   tofn-requires c κs =
-      let at-if1 = c .before .before .before .before .before .before .before in
+      let at-if1 = c .before .before .before .before .before .before .before .before .before in
       let entry = at-if1 .before .before .before in
       (omega (arith, entry .pre .0, at-if1 .if1 .left), entry .pre .1)
 
@@ -73,7 +73,7 @@ module _ (t : ℕ) where
 
   pub mptr-requires : lts.Need-mptr-requires (claims t) (ty-at t) ty.Post
   mptr-requires c κs =
-      let at-if1 = c .before .before .before .before .before .before .before in
+      let at-if1 = c .before .before .before .before .before .before .before .before .before in
       let entry = at-if1 .before .before .before in
       (omega (arith, entry .pre .0, at-if1 .if1 .left), entry .pre .1)
 
@@ -82,7 +82,7 @@ module _ (t : ℕ) where
 
   pub func-requires : lts.Need-func-requires (claims t) (ty-at t) ty.Post
   func-requires c κs =
-      let at-if1 = c .before .before .before .before .before .before .before in
+      let at-if1 = c .before .before .before .before .before .before .before .before .before in
       let entry = at-if1 .before .before .before in
       (omega (arith, entry .pre .0, at-if1 .if1 .left), entry .pre .1)
 
@@ -91,7 +91,7 @@ module _ (t : ℕ) where
 
   pub array-requires : lts.Need-array-requires (claims t) (ty-at t) ty.Post
   array-requires c κs =
-      let at-if1 = c .before .before .before .before .before .before in
+      let at-if1 = c .before .before .before .before .before .before .before .before in
       let entry = at-if1 .before .before .before in
       (omega (arith, entry .pre .0, at-if1 .if1 .left), entry .pre .1)
 
@@ -114,7 +114,7 @@ module _ (t : ℕ) where
   unfolding body
   returns-2 c =
       let at-named = c .before .before in
-      let at-f = at-named .before .before .before in
+      let at-f = at-named .before .before .before .before .before in
       let at-type-shape = at-f .before .before .before in
       let at-opened = at-type-shape .before in
       let at-if1 = at-opened .before in
@@ -127,7 +127,7 @@ module _ (t : ℕ) where
   unfolding body
   returns-3 c =
       let at-point = c .before .before in
-      let at-f2 = at-point .before .before .before in
+      let at-f2 = at-point .before .before .before .before .before in
       let at-type-shape = at-f2 .before .before .before in
       let at-opened = at-type-shape .before in
       let at-if1 = at-opened .before in
@@ -140,7 +140,7 @@ module _ (t : ℕ) where
   unfolding body
   returns-4 c =
       let at-tofn = c .before .before in
-      let at-f3 = at-tofn .before .before .before in
+      let at-f3 = at-tofn .before .before .before .before .before in
       let at-type-shape = at-f3 .before .before .before in
       let at-opened = at-type-shape .before in
       let at-if1 = at-opened .before in
@@ -153,7 +153,7 @@ module _ (t : ℕ) where
   unfolding body
   returns-5 c =
       let at-mptr = c .before .before in
-      let at-f4 = at-mptr .before .before .before in
+      let at-f4 = at-mptr .before .before .before .before .before in
       let at-type-shape = at-f4 .before .before .before in
       let at-opened = at-type-shape .before in
       let at-if1 = at-opened .before in
@@ -166,7 +166,7 @@ module _ (t : ℕ) where
   unfolding body
   returns-6 c =
       let at-func = c .before .before in
-      let at-f5 = at-func .before .before .before in
+      let at-f5 = at-func .before .before .before .before .before in
       let at-type-shape = at-f5 .before .before .before in
       let at-opened = at-type-shape .before in
       let at-if1 = at-opened .before in
@@ -179,7 +179,7 @@ module _ (t : ℕ) where
   unfolding body
   returns-7 c =
       let at-array = c .before .before in
-      let at-enum-told = at-array .before .before in
+      let at-enum-told = at-array .before .before .before .before in
       let at-type-shape = at-enum-told .before .before .before in
       let at-opened = at-type-shape .before in
       let at-if1 = at-opened .before in

@@ -44,7 +44,7 @@ module _ (t : ℕ) where
 
   pub tmpl-requires : lts.Need-tmpl-requires (claims t) (unq-at t) unq.Post
   tmpl-requires c κs =
-      let at-if1 = c .before .before .before .before .before .before in
+      let at-if1 = c .before .before .before .before .before .before .before .before in
       let entry = at-if1 .before .before .before in
       (omega (arith, entry .pre .0, at-if1 .if1 .left), entry .pre .1)
 
@@ -56,7 +56,7 @@ module _ (t : ℕ) where
 
   pub special-requires : lts.Need-special-requires (claims t) (unq-at t) unq.Post
   special-requires c κs =
-      let at-if1 = c .before .before .before .before .before .before in
+      let at-if1 = c .before .before .before .before .before .before .before .before in
       let entry = at-if1 .before .before .before in
       (omega (arith, entry .pre .0, at-if1 .if1 .left), entry .pre .1)
 
@@ -76,18 +76,20 @@ module _ (t : ℕ) where
   refused-requires-2 c κs = search needs
 
   pub same-length : lts.Need-same-length (claims t) (unq-at t) unq.Post
-  same-length c = c .before .before .before .before .tmpl .kept .1 .0
+  same-length c =
+      let at-tmpl = c .before .before .before .before .before in
+      at-tmpl .tmpl .kept .1 .0
 
   pub returns-2 : lts.Need-returns-2 (claims t) (unq-at t) unq.Post
   unfolding body
   returns-2 c =
-      let at-tmpl = c .before .before .before .before in
-      let at-enum-told = at-tmpl .before .before in
+      let at-tmpl = c .before .before .before .before .before in
+      let at-enum-told = at-tmpl .before .before .before .before in
       let at-unqualified-shape = at-enum-told .before .before .before in
       let at-opened = at-unqualified-shape .before in
       let at-if1 = at-opened .before in
       let entry = at-if1 .before .before .before in
-      reads-body (at-if1 .if1 .left) (at-opened .opened .ensures) (does-leads (at-unqualified-shape .unqualified-shape .ensures (entry .args .function)) (does-as (ap (shapeUnqualified (entry .args .function)) (at-enum-told .enum-told .given .1)) (does-follows (at-tmpl .tmpl .ensures) (c .stored-unless .ensures _ _ _))))
+      reads-body (at-if1 .if1 .left) (at-opened .opened .ensures) (does-leads (at-unqualified-shape .unqualified-shape .ensures (entry .args .function)) (does-as (ap (shapeUnqualified (entry .args .function)) (at-enum-told .enum-told .given .1)) (does-follows (at-tmpl .tmpl .ensures) (c .stored-unless .ensures _ _ _ _))))
 
   pub same-length-2 : lts.Need-same-length-2 (claims t) (unq-at t) unq.Post
   same-length-2 c = c .before .before .special .kept .1 .0
@@ -96,7 +98,7 @@ module _ (t : ℕ) where
   unfolding body
   returns-3 c =
       let at-special = c .before .before in
-      let at-enum-told2 = at-special .before .before in
+      let at-enum-told2 = at-special .before .before .before .before in
       let at-unqualified-shape = at-enum-told2 .before .before .before in
       let at-opened = at-unqualified-shape .before in
       let at-if1 = at-opened .before in
@@ -110,12 +112,12 @@ module _ (t : ℕ) where
   unfolding body
   returns-4 c =
       let at-leaf-name = c .before .before .before in
-      let at-f = at-leaf-name .before .before .before in
+      let at-f = at-leaf-name .before .before .before .before in
       let at-unqualified-shape = at-f .before .before .before in
       let at-opened = at-unqualified-shape .before in
       let at-if1 = at-opened .before in
       let entry = at-if1 .before .before .before in
-      reads-body (at-if1 .if1 .left) (at-opened .opened .ensures) (does-leads (at-unqualified-shape .unqualified-shape .ensures (entry .args .function)) (does-as (ap (shapeUnqualified (entry .args .function)) (at-f .f .given .1)) (does-beside (at-leaf-name .leaf-name .ensures _) (c .beside .ensures))))
+      reads-body (at-if1 .if1 .left) (at-opened .opened .ensures) (does-leads (at-unqualified-shape .unqualified-shape .ensures (entry .args .function)) (does-as (ap (shapeUnqualified (entry .args .function)) (at-f .f .given .1)) (does-beside (at-leaf-name .leaf-name .ensures _ _) (c .beside .ensures))))
 
   pub returns-5 : lts.Need-returns-5 (claims t) (unq-at t) unq.Post
   unfolding body

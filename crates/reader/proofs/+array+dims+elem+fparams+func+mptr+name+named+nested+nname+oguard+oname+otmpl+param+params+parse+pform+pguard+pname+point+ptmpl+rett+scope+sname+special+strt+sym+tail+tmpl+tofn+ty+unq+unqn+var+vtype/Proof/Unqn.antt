@@ -1,6 +1,7 @@
 -- `unqn`, a member of the cycle.
 -- Assumes nothing.
 use Prim.Native.Nat.{ℕ}
+use mathlib.Core.List.{[]}
 use Rattle.grammar.specs.Grammar.{stored}
 use Rattle.steps.proofs.Laws.{does-part, does-finds, unguarded, on-digit, no-digit}
 use borrow.Author.Needs.{needs}
@@ -30,14 +31,14 @@ module _ (t : ℕ) where
 
   pub unq-requires : lts.Need-unq-requires (claims t) (unqn-at t) unqn.Post
   unq-requires c κs =
-      let entry = c .before .before .before .before .before .before in
+      let entry = c .before .before .before .before .before .before .before .before in
       (omega (arith, entry .pre .0), entry .pre .1)
 
   pub returns : lts.Need-returns (claims t) (unqn-at t) unqn.Post
   returns c =
-      let at-v = c .before .before in
+      let at-v = c .before .before .before in
       let at-digit = at-v .before .before in
-      on-digit stored (at-digit .digit .ensures) (at-v .v .given .1) (unguarded (does-finds (c .name-of .ensures)) (c .name-of .ensures .bare))
+      on-digit stored (at-digit .digit .ensures) (at-v .v .given .1) (unguarded (does-finds (c .name-of .ensures _ _)) (c .name-of .ensures [] [] .bare))
 
   pub same-length : lts.Need-same-length (claims t) (unqn-at t) unqn.Post
   same-length c = c .before .before .unq .kept .1 .0
@@ -45,6 +46,6 @@ module _ (t : ℕ) where
   pub returns-2 : lts.Need-returns-2 (claims t) (unqn-at t) unqn.Post
   returns-2 c =
       let at-unq = c .before .before in
-      let at-enum-told = at-unq .before .before in
+      let at-enum-told = at-unq .before .before .before .before in
       let at-digit = at-enum-told .before .before in
       no-digit stored (at-digit .digit .ensures) (at-enum-told .enum-told .given .1) (does-part (at-unq .unq .ensures))

@@ -19,7 +19,7 @@ claims t = (vtype-below t, vtype.Post, storage-class-reads.Asked, storage-class-
 module _ (t : ℕ) where
   pub vtype-requires : lts.Need-vtype-requires (claims t) (var-at t) var.Post
   vtype-requires c κs =
-      let entry = c .before .before .before in
+      let entry = c .before .before .before .before .before in
       (omega (arith, entry .pre .0), entry .pre .1)
 
   pub enum-known-a : lts.Need-enum-known-a (claims t) (var-at t) var.Post
@@ -27,7 +27,7 @@ module _ (t : ℕ) where
 
   pub storage-class-requires : lts.Need-storage-class-requires (claims t) (var-at t) var.Post
   storage-class-requires c κs =
-      let entry = c .before .before .before .before .before .before .before .before .before in
+      let entry = c .before .before .before .before .before .before .before .before .before .before .before in
       entry .pre .1
 
   pub cast-made : lts.Need-cast-made (claims t) (var-at t) var.Post

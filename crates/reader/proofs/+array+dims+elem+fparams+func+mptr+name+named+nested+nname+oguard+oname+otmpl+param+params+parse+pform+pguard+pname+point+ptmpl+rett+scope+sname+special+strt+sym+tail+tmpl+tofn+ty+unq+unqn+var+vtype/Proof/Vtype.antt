@@ -29,15 +29,15 @@ module _ (t : ℕ) where
 
   pub ty-requires : lts.Need-ty-requires (claims t) (vtype-at t) vtype.Post
   ty-requires c κs =
-      let entry = c .before .before .before .before .before .before in
+      let entry = c .before .before .before .before .before .before .before .before in
       (omega (arith, entry .pre .0), entry .pre .1)
 
   pub returns : lts.Need-returns (claims t) (vtype-at t) vtype.Post
   returns c =
-      let at-v = c .before .before in
+      let at-v = c .before .before .before in
       let at-reference = at-v .before .before in
       let entry = at-reference .before .before .before in
-      on-reference (entry .args .sc) (at-reference .reference .ensures) (at-v .v .given .1) (does-finds (c .type-of .ensures))
+      on-reference (entry .args .sc) (at-reference .reference .ensures) (at-v .v .given .1) (does-finds (c .type-of .ensures _ _))
 
   pub same-length : lts.Need-same-length (claims t) (vtype-at t) vtype.Post
   same-length c = c .before .before .ty .kept .1 .0
@@ -45,7 +45,7 @@ module _ (t : ℕ) where
   pub returns-2 : lts.Need-returns-2 (claims t) (vtype-at t) vtype.Post
   returns-2 c =
       let at-ty = c .before .before in
-      let at-enum-told = at-ty .before .before in
+      let at-enum-told = at-ty .before .before .before .before in
       let at-reference = at-enum-told .before .before in
       let entry = at-reference .before .before .before in
       no-reference (entry .args .sc) (at-reference .reference .ensures) (at-enum-told .enum-told .given .1) (does-part (at-ty .ty .ensures))

@@ -49,7 +49,7 @@ returns c =
     let at-shut = at-b .before .before .before .before in
     let at-made = at-shut .before in
     let at-a = at-made .before .before .before in
-    λ s d. follows-found (at-a .a .given .1) (does-sub (closes (at-shut .shut .ensures .0) (at-made .made .ensures) refl) (at-b .b .given .1) (does-ret (c .found .ensures)))
+    λ s names types d. follows-found (at-a .a .given .1) (does-sub (closes (at-shut .shut .ensures .0) (at-made .made .ensures) refl) (at-b .b .given .1) (does-ret (c .found .ensures)))
 
 same-length-2 : tie.Need-same-length-2
 same-length-2 c = search needs
@@ -59,10 +59,10 @@ returns-2 c =
     let at-shut = c .before .before .before .before in
     let at-made = at-shut .before in
     let at-a = at-made .before .before .before in
-    λ s d. follows-found (at-a .a .given .1) (sub-refused (closes (at-shut .shut .ensures .0) (at-made .made .ensures) refl) (c .enum-told .given .1))
+    λ s names types d. follows-found (at-a .a .given .1) (sub-refused (closes (at-shut .shut .ensures .0) (at-made .made .ensures) refl) (c .enum-told .given .1))
 
 returns-3 : tie.Need-returns-3
-returns-3 c = λ s d. follows-refused (c .enum-told2 .given .1)
+returns-3 c = λ s names types d. follows-refused (c .enum-told2 .given .1)
 
 pub placed-spec : {M : Type 1} → statement M
 placed-spec =

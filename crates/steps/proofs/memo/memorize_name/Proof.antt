@@ -8,7 +8,7 @@ use Rattle.steps.proofs.memo.memorize_name.Statement.{statement}
 use Rattle.steps.proofs.memo.memorize_name.Tie as tie
 
 returns : tie.Need-returns
-returns c = keeps-full names (c .if1 .taken) refl
+returns c = λ l. keeps-full names (c .if1 .taken) refl
 
 counted-requires : tie.Need-counted-requires
 counted-requires c κs = search needs
@@ -21,22 +21,22 @@ returns-2 c =
     let at-holds = c .before in
     let at-counted = at-holds .before in
     let at-if1 = at-counted .before .before in
-    keeps-held names (at-if1 .if1 .left) (at-counted .counted .ensures) (at-holds .holds .ensures) (c .if2 .taken) refl
+    λ l. keeps-held names (at-if1 .if1 .left) (at-counted .counted .ensures) (at-holds .holds .ensures) (c .if2 .taken) refl
 
 cast-i : tie.Need-cast-i
 cast-i c = search needs
 
-mul-next : tie.Need-mul-next
-mul-next c = search needs
+mul-names : tie.Need-mul-names
+mul-names c = search needs
 
-element-write-next : tie.Need-element-write-next
-element-write-next c = search needs
+element-write-names : tie.Need-element-write-names
+element-write-names c = search needs
 
-add-next : tie.Need-add-next
-add-next c = search needs
+add-counting : tie.Need-add-counting
+add-counting c = search needs
 
-with-memo-requires : tie.Need-with-memo-requires
-with-memo-requires c κs = search needs
+counting-requires : tie.Need-counting-requires
+counting-requires c κs = search needs
 
 returns-3 : tie.Need-returns-3
 returns-3 c =
@@ -44,7 +44,7 @@ returns-3 c =
     let at-holds = at-if2 .before in
     let at-counted = at-holds .before in
     let at-if1 = at-counted .before .before in
-    keeps-more names (at-if1 .if1 .left) (at-counted .counted .ensures) (at-holds .holds .ensures) (at-if2 .if2 .left) (c .with-memo .ensures)
+    λ l. keeps-more names (at-if1 .if1 .left) (at-counted .counted .ensures) (at-holds .holds .ensures) (at-if2 .if2 .left) (rw (c .counting .ensures))
 
 pub memorize-name-spec : {M : Type 1} → statement M
 memorize-name-spec =
@@ -55,8 +55,8 @@ memorize-name-spec =
     holds-requires
     returns-2
     cast-i
-    mul-next
-    element-write-next
-    add-next
-    with-memo-requires
+    mul-names
+    element-write-names
+    add-counting
+    counting-requires
     returns-3)

@@ -7,9 +7,6 @@ use Rattle.steps.proofs.state.opened.Tie as tie
 less-requires : tie.Need-less-requires
 less-requires c κs = search needs
 
-cast-larger : tie.Need-cast-larger
-cast-larger c = search needs
-
 larger-requires : tie.Need-larger-requires
 larger-requires c κs = search needs
 
@@ -17,4 +14,4 @@ returns : tie.Need-returns
 returns c = simp (c .larger .ensures, c .before .less .ensures)
 
 pub opened-spec : {M : Type 1} → statement M
-opened-spec = tie.close (tie.spec less-requires cast-larger larger-requires returns)
+opened-spec = tie.close (tie.spec less-requires larger-requires returns)
