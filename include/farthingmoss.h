@@ -2,7 +2,8 @@
  *
  * No call allocates, keeps a pointer, has state of its own, or asks for anything to be checked first: any bytes, any
  * flags and any buffers get an answer or a numbered refusal, the same one each time. Calls may run at the same time as
- * long as their buffers are apart. Link with libfarthingmoss.a (x86-64): of other libraries it needs memcpy and memset.
+ * long as their buffers are apart. A call is tested to run in 1 MiB of stack. Link with libfarthingmoss.a (x86-64): of
+ * other libraries it needs memcpy and memset.
  *
  * Example: prints `int x`.
  *

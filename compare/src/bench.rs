@@ -5,37 +5,27 @@
 //!                                   instructions
 //!
 //! One table and one text serve all calls and are not cleared. Before a list is timed each text is
-//! held to the crate's.
+//! held to the crate's; where one differs the list is not timed, and the exit status is 1.
+// Of these modules only a part is used here.
+#[allow(dead_code)]
+mod limits;
+#[allow(dead_code)]
+mod writing;
+
 use std::hint::black_box;
 use std::process::ExitCode;
 use std::time::{Duration, Instant};
 use std::{env, fs, io, thread};
 
+use limits::{ACCEPTED, CELLS, DEEPEST};
 use msvc_demangler::{demangle, DemangleFlags};
 
 const NODES: usize = 4096;
 const TEXT: usize = 65536;
-const DEPTH: u32 = 200;
 const ROUNDS: usize = 9;
 /// The best of so many calls is what a symbol takes.
 const CALLS: usize = 5;
 const STACK_BYTES: usize = 512 << 20;
-
-#[link(name = "farthingmoss", kind = "static")]
-extern "C" {
-    fn farthingmoss_node_cells() -> usize;
-    fn farthingmoss_read(
-        symbol: *const u8,
-        len: usize,
-        flags: u32,
-        depth: u32,
-        table: *mut u32,
-        table_len: usize,
-        text: *mut u8,
-        text_len: usize,
-        report: *mut [u64; 5],
-    );
-}
 
 struct Product {
     table: Vec<u32>,
@@ -44,30 +34,14 @@ struct Product {
 
 impl Product {
     fn new() -> Product {
-        // SAFETY: it takes nothing and has no effect.
-        let cells = unsafe { farthingmoss_node_cells() };
-        Product { table: vec![0; NODES * cells], text: vec![0; TEXT] }
+        Product { table: vec![0; NODES * CELLS], text: vec![0; TEXT] }
     }
 
     /// The text of an answered symbol.
     fn demangle(&mut self, symbol: &str) -> Option<&[u8]> {
-        let mut report = [0; 5];
-        // SAFETY: the slices live through the call, which reads and writes within their lengths.
-        unsafe {
-            farthingmoss_read(
-                symbol.as_ptr(),
-                symbol.len(),
-                0,
-                DEPTH,
-                self.table.as_mut_ptr(),
-                self.table.len(),
-                self.text.as_mut_ptr(),
-                self.text.len(),
-                &mut report,
-            );
-        }
-        let [number, _, _, _, length] = report;
-        (number == 0).then(|| &self.text[..length as usize])
+        let depth = u32::from(DEEPEST);
+        let report = writing::read(symbol.as_bytes(), 0, depth, &mut self.table, &mut self.text);
+        (report.number == ACCEPTED).then(|| &self.text[..report.text])
     }
 }
 
@@ -113,10 +87,12 @@ fn print_slowest(list: &str, who: &str, (time, symbol): (Duration, &str)) {
     println!("{list}: slowest by the {who} {time:?}, {} bytes, {start}", symbol.len());
 }
 
-fn bench(list: &str, symbols: &[&str]) {
+/// Whether the list was timed: its texts are the crate's.
+fn bench(list: &str, symbols: &[&str]) -> bool {
     let mut product = Product::new();
     if let Some(symbol) = difference(&mut product, symbols) {
         println!("{list}: the texts differ on {symbol}");
+        return false;
     }
     let rounds: Vec<_> = (0..ROUNDS)
         .map(|_| {
@@ -140,6 +116,7 @@ fn bench(list: &str, symbols: &[&str]) {
     );
     print_slowest(list, "product", slowest(symbols, |symbol| by_product(&mut product, symbol)));
     print_slowest(list, "crate", slowest(symbols, by_crate));
+    true
 }
 
 fn once(who: &str, symbols: &[&str]) {
@@ -150,20 +127,22 @@ fn once(who: &str, symbols: &[&str]) {
     }
 }
 
-fn run(words: Vec<String>) -> io::Result<()> {
+/// Whether every list to be timed was.
+fn run(words: Vec<String>) -> io::Result<bool> {
     let (who, lists) = match words.as_slice() {
         [option, who, lists @ ..] if option == "--once" => (Some(who), lists),
         lists => (None, lists),
     };
+    let mut all_timed = true;
     for list in lists {
         let data = fs::read_to_string(list)?;
         let symbols: Vec<&str> = data.lines().collect();
         match who {
             Some(who) => once(who, &symbols),
-            None => bench(list, &symbols),
+            None => all_timed &= bench(list, &symbols),
         }
     }
-    Ok(())
+    Ok(all_timed)
 }
 
 fn main() -> io::Result<ExitCode> {
@@ -173,6 +152,6 @@ fn main() -> io::Result<ExitCode> {
         return Ok(ExitCode::from(2));
     }
     let worker = thread::Builder::new().stack_size(STACK_BYTES).spawn(move || run(words))?;
-    worker.join().expect("neither traps on a list")?;
-    Ok(ExitCode::SUCCESS)
+    let all_timed = worker.join().expect("neither traps on a list")?;
+    Ok(ExitCode::from(u8::from(!all_timed)))
 }
