@@ -1,10 +1,12 @@
 -- Two references compared, by their nodes. Assumes nothing.
 use Prim.Native.Nat.{ℕ, _-_, _≤_, _<_}
-use mathlib.Core.Bool.{Bool, true, false, _&&_}
+use mathlib.Core.Bool.{Bool, true, false, not, _&&_}
 use mathlib.Core.Path.{_≡_, refl, sym, ap, ap₂, _∙_}
 use mathlib.Core.List.{List}
 use native.Mathlib.Decide.{ℕ-discrete}
 use native.Mathlib.Omega.{arith}
+use lib.Dec.{eqb}
+use borrow.Author.Tests.{eq-eqb, ne-eqb}
 use Rattle.meaning.specs.Tree.{treeOf, kidOf, eqTree, eqOwn}
 use Rattle.meaning.specs.Links.{Judged}
 use Rattle.meaning.proofs.Trees.{eqTree-refl, tree-none, tree-is}
@@ -13,13 +15,23 @@ and-false : (a : Bool) → a && false ≡ false
 and-false true = refl
 and-false false = refl
 
+and-and : (a b c : Bool) → (a && b) && c ≡ a && (b && c)
+and-and true b c = refl
+and-and false b c = refl
+
 and-true : (a : Bool) → a && true ≡ a
 and-true true = refl
 and-true false = refl
 
+pub at-same : (t y : List ℕ) {r q s p : ℕ} → r ≡ s → q ≡ p → eqTree (treeOf t y r) (treeOf t y q) ≡ eqTree (treeOf t y s) (treeOf t y p)
+at-same t y = ap₂ (λ r q. eqTree (treeOf t y r) (treeOf t y q))
+
 module _ (t y : List ℕ) (r q : ℕ) where
   pub same-place : r ≡ q → eqTree (treeOf t y r) (treeOf t y q) ≡ true
   same-place e = ap (λ x. eqTree (treeOf t y r) (treeOf t y x)) (sym e) ∙ eqTree-refl (treeOf t y r)
+
+  pub judged-same : {v : ℕ} → r ≡ q → 2 ≤ v → Judged (eqTree (treeOf t y r) (treeOf t y q)) v
+  judged-same e h = record { no = λ z. absurd (omega arith); yes = λ g. same-place e }
 
   pub same-none : r ≡ 0 → (r ≡ q → ⊥) → eqTree (treeOf t y r) (treeOf t y q) ≡ false
   unfolding eqTree
@@ -47,35 +59,55 @@ module _ (t y : List ℕ) (r q : ℕ) where
       let k : treeOf t y (kidOf t (r - 1) 4) ≡ treeOf t y (kidOf t (q - 1) 4) = cc in
       ap (treeOf t y) ea ∙ k ∙ sym (ap (treeOf t y) ed)
 
--- two nodes: what they hold themselves, o, and what their references mean, as the code has them
-module _ (t y : List ℕ) {r q a d b e c f : ℕ} {o : Bool} (hr : 1 ≤ r) (hq : 1 ≤ q) (eo : o ≡ eqOwn t y (r - 1) (q - 1))
-    (ea : a ≡ kidOf t (r - 1) 4) (ed : d ≡ kidOf t (q - 1) 4) (eb : b ≡ kidOf t (r - 1) 5) (ee : e ≡ kidOf t (q - 1) 5) (ec : c ≡ kidOf t (r - 1) 6) (ef : f ≡ kidOf t (q - 1) 6) where
-  step : eqTree (treeOf t y r) (treeOf t y q) ≡ o && (eqTree (treeOf t y a) (treeOf t y d) && (eqTree (treeOf t y b) (treeOf t y e) && eqTree (treeOf t y c) (treeOf t y f)))
+-- two nodes: what they hold themselves, o, and what their references mean; the first are a and d, as the code has them
+module _ (t y : List ℕ) {r q a d : ℕ} {o : Bool} (hr : 1 ≤ r) (hq : 1 ≤ q) (eo : o ≡ eqOwn t y (r - 1) (q - 1)) (ea : a ≡ kidOf t (r - 1) 4) (ed : d ≡ kidOf t (q - 1) 4) where
+  abbrev first : Bool
+  first = eqTree (treeOf t y a) (treeOf t y d)
+
+  abbrev second : Bool
+  second = eqTree (treeOf t y (kidOf t (r - 1) 5)) (treeOf t y (kidOf t (q - 1) 5))
+
+  abbrev third : Bool
+  third = eqTree (treeOf t y (kidOf t (r - 1) 6)) (treeOf t y (kidOf t (q - 1) 6))
+
+  step : eqTree (treeOf t y r) (treeOf t y q) ≡ o && (first && (second && third))
   unfolding eqTree eqOwn
-  step = ap₂ eqTree (tree-is t y r hr) (tree-is t y q hq) ∙ rw (ea, ed, eb, ee, ec, ef, eo)
+  step = ap₂ eqTree (tree-is t y r hr) (tree-is t y q hq) ∙ rw (ea, ed, eo)
 
   pub not-own : o ≡ false → eqTree (treeOf t y r) (treeOf t y q) ≡ false
   not-own z = step ∙ rw z
 
   module _ (ok : o ≡ true) where
     -- within a budget: one after the other
-    pub judged-first : {v : ℕ} → Judged (eqTree (treeOf t y a) (treeOf t y d)) v → v < 2 → Judged (eqTree (treeOf t y r) (treeOf t y q)) v
-    judged-first j h = record { no = λ z. step ∙ rw (ok, j .no z); yes = λ g. absurd (omega arith) }
-
-    pub judged-second : {u v : ℕ} → Judged (eqTree (treeOf t y a) (treeOf t y d)) u → 2 ≤ u → Judged (eqTree (treeOf t y b) (treeOf t y e)) v → v < 2 → Judged (eqTree (treeOf t y r) (treeOf t y q)) v
-    judged-second i g j h = record { no = λ z. step ∙ rw (ok, i .yes g, j .no z); yes = λ k. absurd (omega arith) }
-
-    pub judged-third : {u v w : ℕ} → Judged (eqTree (treeOf t y a) (treeOf t y d)) u → 2 ≤ u → Judged (eqTree (treeOf t y b) (treeOf t y e)) v → 2 ≤ v
-        → Judged (eqTree (treeOf t y c) (treeOf t y f)) w → Judged (eqTree (treeOf t y r) (treeOf t y q)) w
-    judged-third i g j h k = record { no = λ z. step ∙ rw (ok, i .yes g, j .yes h, k .no z); yes = λ z. step ∙ rw (ok, i .yes g, j .yes h, k .yes z) }
+    pub judged-all : {v : ℕ} → Judged ((first && second) && third) v → Judged (eqTree (treeOf t y r) (treeOf t y q)) v
+    judged-all j = record { no = λ z. step ∙ rw ok (sym (and-and first second third) ∙ j .no z); yes = λ h. step ∙ rw ok (sym (and-and first second third) ∙ j .yes h) }
 
     -- with links: the second, the third, and then on along the first
-    pub not-second : {x : Bool} → x ≡ eqTree (treeOf t y b) (treeOf t y e) → x ≡ false → eqTree (treeOf t y r) (treeOf t y q) ≡ false
-    not-second p z = step ∙ rw (ok, sym p ∙ z) (and-false (eqTree (treeOf t y a) (treeOf t y d)))
+    pub not-second : {x : Bool} → x ≡ second → x ≡ false → eqTree (treeOf t y r) (treeOf t y q) ≡ false
+    not-second p z = step ∙ rw (ok, sym p ∙ z) (and-false first)
 
-    module _ {x : Bool} (p : x ≡ eqTree (treeOf t y b) (treeOf t y e)) (px : x ≡ true) {z : Bool} (g : z ≡ eqTree (treeOf t y c) (treeOf t y f)) where
+    module _ {x : Bool} (p : x ≡ second) (px : x ≡ true) {z : Bool} (g : z ≡ third) where
       pub not-third : z ≡ false → eqTree (treeOf t y r) (treeOf t y q) ≡ false
-      not-third n = step ∙ rw (ok, sym p ∙ px, sym g ∙ n) (and-false (eqTree (treeOf t y a) (treeOf t y d)))
+      not-third n = step ∙ rw (ok, sym p ∙ px, sym g ∙ n) (and-false first)
 
-      pub go-on : z ≡ true → eqTree (treeOf t y r) (treeOf t y q) ≡ eqTree (treeOf t y a) (treeOf t y d)
-      go-on n = step ∙ rw (ok, sym p ∙ px, sym g ∙ n) (and-true (eqTree (treeOf t y a) (treeOf t y d)))
+      pub go-on : z ≡ true → eqTree (treeOf t y r) (treeOf t y q) ≡ first
+      go-on n = step ∙ rw (ok, sym p ∙ px, sym g ∙ n) (and-true first)
+
+-- judged one after the other
+pub judged-is : {e x : Bool} {v : ℕ} → e ≡ x → Judged e v → Judged x v
+judged-is p j = record { no = λ z. sym p ∙ j .no z; yes = λ h. sym p ∙ j .yes h }
+
+module _ (e x : Bool) {u : ℕ} (i : Judged e u) where
+  pub judged-over : u < 2 → Judged (e && x) u
+  judged-over h = record { no = λ z. rw (i .no z); yes = λ g. absurd (omega arith) }
+
+  pub judged-on : {v : ℕ} → 2 ≤ u → Judged x v → Judged (e && x) v
+  judged-on h j = record { no = λ z. rw (i .yes h) (j .no z); yes = λ g. rw (i .yes h) (j .yes g) }
+
+-- what a judgement within the budget says
+pub judged-answer : {e : Bool} {v : ℕ} → Judged e v → (v ≡ 1 → ⊥) → not (eqb v 0) ≡ e
+judged-answer {e} {v} j n = pick (ℕ-discrete v 0)
+  where
+    pick : Dec (v ≡ 0) → not (eqb v 0) ≡ e
+    pick (yes z) = rw (eq-eqb v 0 z) (sym (j .no z))
+    pick (no z) = rw (ne-eqb v 0 z) (sym (j .yes (omega (arith, n, z))))

@@ -4,3 +4,4 @@ pub mod Compare
 pub mod Union
 pub mod Decoded
 pub mod Own
+pub mod Past

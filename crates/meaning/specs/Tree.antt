@@ -55,6 +55,10 @@ treeAt t sym n r = below (tree t sym) none n r
 unfoldable pub treeOf : List ℕ → List ℕ → ℕ → Tree
 treeOf t sym r = treeAt t sym r r
 
+-- what a node past the table's room means: all its cells are 0
+unfoldable pub blankTree : Tree
+blankTree = node 0 (0 ∷ 0 ∷ 0 ∷ 0 ∷ []) [] none none none
+
 -- the reference in cell j of node n, 0 where it names no earlier node
 unfoldable pub kidOf : List ℕ → ℕ → ℕ → ℕ
 kidOf t n j = cond (leb (cellOf t n j) n) (cellOf t n j) 0

@@ -1,9 +1,11 @@
 // What nodes mean, and whether two mean the same.
 ghost use mathlib.Core.Path.{_≡_};
-ghost use Prim.Native.Nat.{_≤_, _<_, _^_};
+ghost use Prim.Native.Nat.{ℕ, _≤_, _<_, _^_};
 ghost use lib.Dec.{eqb};
-ghost use Rattle.node.specs.Cells.{cellOf};
-ghost use Rattle.meaning.specs.Tree.{part, decoded, contentOf, treeOf, kidOf, eqList, eqTree, eqContent, eqOwn};
+ghost use mathlib.Core.Bool.{Bool, _&&_};
+ghost use mathlib.Core.List.{List};
+ghost use Rattle.node.specs.Cells.{nodes, cellOf};
+ghost use Rattle.meaning.specs.Tree.{part, decoded, contentOf, treeOf, kidOf, blankTree, eqList, eqTree, eqContent, eqOwn};
 ghost use Rattle.meaning.specs.Links.{Falls, Links, Root, Joins, Judged};
 use scan::cursor::Leaf;
 use strings::encoded::read_character;
@@ -94,26 +96,58 @@ fn content(kind: usize) -> usize
     }
 }
 
+// Cell c of node n, which the table has: this is not asked again for each cell.
+fn at(table: &[u32], n: usize, c: usize) -> usize
+    requires { ⌜ (n < nodes (now table)) × (c < 12) ⌝ }
+    ensures { λ r. ⌜ (r ≡ cellOf (now (table .entry)) n c) × (r < 2 ^ 32) ⌝ }
+{
+    let i = n * node::CELLS + c;
+    table[i] as usize
+}
+
+// What `kid` is, of a node that the table has.
+fn kid_at(table: &[u32], n: usize, c: usize) -> usize
+    requires { ⌜ (n < nodes (now table)) × (c < 12) ⌝ }
+    ensures { λ r. ⌜ (r ≡ kidOf (now (table .entry)) n c) × (r ≤ n) ⌝ }
+{
+    let r = at(table, n, c);
+    if r <= n { r } else { 0 }
+}
+
+// The bytes of the symbol that node n names.
+fn bytes_at<'a>(table: &[u32], symbol: &'a [u8], n: usize) -> &'a [u8]
+    requires { ⌜ n < nodes (now table) ⌝ }
+    ensures { λ r. ⌜ now r ≡ part (now (symbol .entry)) (cellOf (now (table .entry)) n 7) (cellOf (now (table .entry)) n 8) ⌝ }
+{
+    let s = at(table, n, 7);
+    let e = s + at(table, n, 8);
+    if e <= symbol.len() {
+        return &symbol[s..e];
+    }
+    &symbol[..0]
+}
+
 fn same_cell(table: &[u32], i: usize, j: usize, c: usize) -> bool
+    requires { ⌜ (i < nodes (now table)) × (j < nodes (now table)) × (c < 12) ⌝ }
     ensures { λ x. ⌜ x ≡ eqb (cellOf (now (table .entry)) i c) (cellOf (now (table .entry)) j c) ⌝ }
 {
-    node::cell(table, i, c) == node::cell(table, j, c)
+    at(table, i, c) == at(table, j, c)
 }
 
 // Nodes i and j of one kind: their bytes, or the numbers in their place.
 fn same_content(table: &[u32], symbol: &[u8], i: usize, j: usize) -> bool
-    requires { ⌜ cellOf (now table) i 0 ≡ cellOf (now table) j 0 ⌝ }
+    requires { ⌜ (i < nodes (now table)) × (j < nodes (now table)) × (cellOf (now table) i 0 ≡ cellOf (now table) j 0) ⌝ }
     ensures { λ x. ⌜ x ≡ eqContent (now (table .entry)) (now (symbol .entry)) i j ⌝ }
 {
-    let what = content(node::cell(table, i, 0));
+    let what = content(at(table, i, 0));
     if what == 0 {
         if same_cell(table, i, j, 7) {
             return same_cell(table, i, j, 8);
         }
         return false;
     }
-    let a = part_of(symbol, node::cell(table, i, 7), node::cell(table, i, 8));
-    let b = part_of(symbol, node::cell(table, j, 7), node::cell(table, j, 8));
+    let a = bytes_at(table, symbol, i);
+    let b = bytes_at(table, symbol, j);
     if what == 1 {
         return same_bytes(a, b);
     }
@@ -122,6 +156,7 @@ fn same_content(table: &[u32], symbol: &[u8], i: usize, j: usize) -> bool
 
 // Nodes i and j, without what they refer to.
 fn same_own(table: &[u32], symbol: &[u8], i: usize, j: usize) -> bool
+    requires { ⌜ (i < nodes (now table)) × (j < nodes (now table)) ⌝ }
     ensures { λ x. ⌜ x ≡ eqOwn (now (table .entry)) (now (symbol .entry)) i j ⌝ }
 {
     if same_cell(table, i, j, 0) {
@@ -134,43 +169,8 @@ fn same_own(table: &[u32], symbol: &[u8], i: usize, j: usize) -> bool
     false
 }
 
-const SPENT: usize = 1;
-
-// Plain recursion. 0: they differ; 1: the budget is spent; else they are the same, and this is left of the budget.
-fn plain(table: &[u32], symbol: &[u8], r: usize, q: usize, left: usize) -> usize
-    requires { ⌜ 2 ≤ left ⌝ }
-    ensures { λ v. ⌜ Judged (eqTree (treeOf (now (table .entry)) (now (symbol .entry)) r) (treeOf (now (table .entry)) (now (symbol .entry)) q)) v ⌝ }
-{
-    if r == q {
-        return left;
-    }
-    if r == 0 {
-        return 0;
-    }
-    if q == 0 {
-        return 0;
-    }
-    if left == 2 {
-        return SPENT;
-    }
-    let i = r - 1;
-    let j = q - 1;
-    if same_own(table, symbol, i, j) {
-        let a = plain(table, symbol, kid(table, i, 4), kid(table, j, 4), left - 1);
-        if a < 2 {
-            return a;
-        }
-        let b = plain(table, symbol, kid(table, i, 5), kid(table, j, 5), a);
-        if b < 2 {
-            return b;
-        }
-        return plain(table, symbol, kid(table, i, 6), kid(table, j, 6), b);
-    }
-    0
-}
-
-// How many nodes can be linked: more than any reading leaves. Those past it are compared too, and never linked.
-const LINKS: usize = 32768;
+// How many nodes can be linked: as many as a reading may count. Those past it are compared too, and never linked.
+const LINKS: usize = 8192;
 
 // Where the links lead from r.
 fn find(links: &[u16; LINKS], r: usize) -> usize
@@ -217,7 +217,7 @@ fn link(links: &mut [u16; LINKS], x: usize, y: usize)
 
 // Links two references of equal meaning, and so on along their chains of first references.
 fn join(table: &[u32], symbol: &[u8], links: &mut [u16; LINKS], r: usize, q: usize)
-    requires { ⌜ Links (treeOf (now table) (now symbol)) (now links) × (treeOf (now table) (now symbol) r ≡ treeOf (now table) (now symbol) q) ⌝ }
+    requires { ⌜ (r ≤ nodes (now table)) × (q ≤ nodes (now table)) × Links (treeOf (now table) (now symbol)) (now links) × (treeOf (now table) (now symbol) r ≡ treeOf (now table) (now symbol) q) ⌝ }
     ensures { λ _. ⌜ Links (treeOf (now (table .entry)) (now (symbol .entry))) (now (links .exit)) ⌝ }
 {
     let mut x = find(links, r);
@@ -226,14 +226,34 @@ fn join(table: &[u32], symbol: &[u8], links: &mut [u16; LINKS], r: usize, q: usi
         let i = x - 1;
         let j = y - 1;
         link(links, x, y);
-        x = find(links, kid(table, i, 4));
-        y = find(links, kid(table, j, 4));
+        x = find(links, kid_at(table, i, 4));
+        y = find(links, kid_at(table, j, 4));
     }
+}
+
+// The references in cell c of nodes i and j: most are equal as they stand, and need no walk.
+fn linked_kid(
+    table: &[u32],
+    symbol: &[u8],
+    links: &mut [u16; LINKS],
+    i: usize,
+    j: usize,
+    c: usize,
+) -> bool
+    requires { ⌜ (i < nodes (now table)) × (j < nodes (now table)) × (c < 12) × Links (treeOf (now table) (now symbol)) (now links) ⌝ }
+    ensures { λ x. ⌜ (x ≡ eqTree (treeOf (now (table .entry)) (now (symbol .entry)) (kidOf (now (table .entry)) i c)) (treeOf (now (table .entry)) (now (symbol .entry)) (kidOf (now (table .entry)) j c))) × Links (treeOf (now (table .entry)) (now (symbol .entry))) (now (links .exit)) ⌝ }
+{
+    let r = kid_at(table, i, c);
+    let q = kid_at(table, j, c);
+    if r == q {
+        return true;
+    }
+    linked(table, symbol, links, r, q)
 }
 
 // Recursion over the second and the third references and a loop along the first, with links between those found equal.
 fn linked(table: &[u32], symbol: &[u8], links: &mut [u16; LINKS], r: usize, q: usize) -> bool
-    requires { ⌜ Links (treeOf (now table) (now symbol)) (now links) ⌝ }
+    requires { ⌜ (r ≤ nodes (now table)) × (q ≤ nodes (now table)) × Links (treeOf (now table) (now symbol)) (now links) ⌝ }
     ensures { λ x. ⌜ (x ≡ eqTree (treeOf (now (table .entry)) (now (symbol .entry)) r) (treeOf (now (table .entry)) (now (symbol .entry)) q)) × Links (treeOf (now (table .entry)) (now (symbol .entry))) (now (links .exit)) ⌝ }
 {
     let mut x = find(links, r);
@@ -248,10 +268,10 @@ fn linked(table: &[u32], symbol: &[u8], links: &mut [u16; LINKS], r: usize, q: u
         let i = x - 1;
         let j = y - 1;
         if same_own(table, symbol, i, j) {
-            if linked(table, symbol, links, kid(table, i, 5), kid(table, j, 5)) {
-                if linked(table, symbol, links, kid(table, i, 6), kid(table, j, 6)) {
-                    x = find(links, kid(table, i, 4));
-                    y = find(links, kid(table, j, 4));
+            if linked_kid(table, symbol, links, i, j, 5) {
+                if linked_kid(table, symbol, links, i, j, 6) {
+                    x = find(links, kid_at(table, i, 4));
+                    y = find(links, kid_at(table, j, 4));
                 } else {
                     return false;
                 }
@@ -266,23 +286,124 @@ fn linked(table: &[u32], symbol: &[u8], links: &mut [u16; LINKS], r: usize, q: u
     true
 }
 
-fn same_linked(table: &[u32], symbol: &[u8], r: usize, q: usize) -> bool
-    ensures { λ x. ⌜ x ≡ eqTree (treeOf (now (table .entry)) (now (symbol .entry)) r) (treeOf (now (table .entry)) (now (symbol .entry)) q) ⌝ }
+// The whole comparison with links. 0: they differ; 2: they are the same.
+fn same_linked(table: &[u32], symbol: &[u8], r: usize, q: usize) -> usize
+    requires { ⌜ (r ≤ nodes (now table)) × (q ≤ nodes (now table)) ⌝ }
+    ensures { λ v. ⌜ Judged (eqTree (treeOf (now (table .entry)) (now (symbol .entry)) r) (treeOf (now (table .entry)) (now (symbol .entry)) q)) v × (v ≡ 1 → ⊥) ⌝ }
 {
     let mut links = [0u16; LINKS];
-    linked(table, symbol, &mut links, r, q)
+    if linked(table, symbol, &mut links, r, q) {
+        2
+    } else {
+        0
+    }
 }
 
-// Whether r and q mean the same.
+// The budget of a plain recursion: 64 visits, and 2.
+const VISITS: usize = 66;
+
+// The answer when the budget is spent.
+const SPENT: usize = 1;
+
+// The references in cell c of nodes i and j, after others with this answer.
+fn plain_kid(table: &[u32], symbol: &[u8], i: usize, j: usize, c: usize, left: usize) -> usize
+    requires { ⌜ (i < nodes (now table)) × (j < nodes (now table)) × (c < 12) ⌝ }
+    ensures { λ v. ⌜ ((e : Bool) → Judged e left → Judged (e && eqTree (treeOf (now (table .entry)) (now (symbol .entry)) (kidOf (now (table .entry)) i c)) (treeOf (now (table .entry)) (now (symbol .entry)) (kidOf (now (table .entry)) j c))) v) ⌝ }
+{
+    if left < 2 {
+        return left;
+    }
+    let r = kid_at(table, i, c);
+    let q = kid_at(table, j, c);
+    if r == q {
+        return left;
+    }
+    plain(table, symbol, r, q, left)
+}
+
+// Plain recursion. 0: they differ; 1: the budget is spent; else they are the same, and this is left of the budget.
+// The outermost call, which has all of it, answers with links then. A caller would get the array of links into its frame; this calls itself, and does not.
+fn plain(table: &[u32], symbol: &[u8], r: usize, q: usize, left: usize) -> usize
+    requires { ⌜ (r ≤ nodes (now table)) × (q ≤ nodes (now table)) × (2 ≤ left) ⌝ }
+    ensures { λ v. ⌜ Judged (eqTree (treeOf (now (table .entry)) (now (symbol .entry)) r) (treeOf (now (table .entry)) (now (symbol .entry)) q)) v × (left ≡ 66 → v ≡ 1 → ⊥) ⌝ }
+{
+    if r == q {
+        return left;
+    }
+    if r == 0 {
+        return 0;
+    }
+    if q == 0 {
+        return 0;
+    }
+    let i = r - 1;
+    let j = q - 1;
+    if same_own(table, symbol, i, j) {
+        if left == 2 {
+            return SPENT;
+        }
+        let x = kid_at(table, i, 4);
+        let y = kid_at(table, j, 4);
+        let a = plain(table, symbol, x, y, left - 1);
+        let b = plain_kid(table, symbol, i, j, 5, a);
+        let v = plain_kid(table, symbol, i, j, 6, b);
+        if v == SPENT {
+            if left == VISITS {
+                return same_linked(table, symbol, r, q);
+            }
+        }
+        return v;
+    }
+    0
+}
+
+// Whether r means what a node past the table does: no kind, no numbers, no references.
+fn blank(table: &[u32], r: usize) -> bool
+    requires { ⌜ 1 ≤ r ⌝ }
+    ensures { λ x. ⌜ ((s : List ℕ) → x ≡ eqTree (treeOf (now (table .entry)) s r) blankTree) ⌝ }
+{
+    let n = r - 1;
+    let numbers = node::cell(table, n, 7)
+        + node::cell(table, n, 8)
+        + node::cell(table, n, 9)
+        + node::cell(table, n, 10);
+    if node::cell(table, n, 0) + numbers != 0 {
+        return false;
+    }
+    if kid(table, n, 4) != 0 {
+        return false;
+    }
+    if kid(table, n, 5) != 0 {
+        return false;
+    }
+    if kid(table, n, 6) != 0 {
+        return false;
+    }
+    true
+}
+
+// Whether r and q mean the same. Most that are asked for differ in what they hold themselves.
 pub fn same(table: &[u32], symbol: &[u8], r: usize, q: usize) -> bool
     ensures { λ x. ⌜ x ≡ eqTree (treeOf (now (table .entry)) (now (symbol .entry)) r) (treeOf (now (table .entry)) (now (symbol .entry)) q) ⌝ }
 {
-    let v = plain(table, symbol, r, q, 258);
-    if v == 0 {
+    if r == q {
+        return true;
+    }
+    if r == 0 {
         return false;
     }
-    if v == SPENT {
-        return same_linked(table, symbol, r, q);
+    if q == 0 {
+        return false;
     }
-    true
+    let n = node::room(table);
+    if n < r {
+        return blank(table, q);
+    }
+    if n < q {
+        return blank(table, r);
+    }
+    if same_own(table, symbol, r - 1, q - 1) {
+        return plain(table, symbol, r, q, VISITS) != 0;
+    }
+    false
 }

@@ -20,7 +20,8 @@ same-content-requires : tie.Need-same-content-requires
 same-content-requires c κs =
     let at-if1 = c .before .before .before .before in
     let at-same-cell = at-if1 .before in
-    eqb-true _ _ (sym (at-same-cell .same-cell .ensures) ∙ at-if1 .if1 .taken)
+    let entry = at-same-cell .before .before .before in
+    (entry .pre .0, entry .pre .1, eqb-true _ _ (sym (at-same-cell .same-cell .ensures) ∙ at-if1 .if1 .taken))
 
 returns : tie.Need-returns
 returns c =
