@@ -20,29 +20,22 @@ use Rattle.steps.specs.Does.{Lent, lent, full, counting, refusedAt, foun
 use Rattle.steps.specs.declared.state.Spot.{Spot}
 use Rattle.steps.specs.declared.state.Got.{Got}
 
--- one of the first n + 1 entries is one of the first n, or the last of them
-any-last : (f : ℕ → Bool) (l : List ℕ) (n : ℕ) → n < length l → anyOf f (take (suc n) l) ≡ pick (anyOf f (take n l)) true (f (getD l n 0))
-any-last f [] n h = absurd (omega arith)
-any-last f (x ∷ l) zero h = alone (f x)
-  where
-    alone : (b : Bool) → pick b true false ≡ pick false true b
-    alone true = refl
-    alone false = refl
-any-last f (x ∷ l) (suc n) h = before (f x) _ _ _ (any-last f l n (omega arith))
-  where
-    before : (b c d e : Bool) → c ≡ pick d true e → pick b true c ≡ pick (pick b true d) true e
-    before true c d e h = refl
-    before false c d e h = h
+-- whether one of the first n is equal, from entry i on
+any-from : (f : ℕ → Bool) (l : List ℕ) (n i : ℕ) → i < n → n ≤ length l → anyOf f (drop i (take n l)) ≡ pick (f (getD l i 0)) true (anyOf f (drop (i + 1) (take n l)))
+any-from f l n i h m =
+    let k : i < length (take n l) = rw (length-take n l) (omega arith) in
+    rw (add-one i, drop-cons (take n l) i 0 k, getD-take n l i 0 h)
 
-module _ (f : ℕ → Bool) (l : List ℕ) (n : ℕ) (some : 0 < n) (within : n ≤ length l) where
-  last-is : anyOf f (take n l) ≡ pick (anyOf f (take (n - 1) l)) true (f (getD l (n - 1) 0))
-  last-is = let z : suc (n - 1) ≡ n = omega arith in rw z at (any-last f l (n - 1) (omega arith))
+pub any-here : (f : ℕ → Bool) (l : List ℕ) (n i : ℕ) → i < n → n ≤ length l → f (getD l i 0) ≡ true → anyOf f (drop i (take n l)) ≡ true
+any-here f l n i h m e = any-from f l n i h m ∙ rw e
 
-  pub any-first : anyOf f (take (n - 1) l) ≡ true → anyOf f (take n l) ≡ true
-  any-first e = last-is ∙ rw e
+pub any-behind : (f : ℕ → Bool) (l : List ℕ) (n i : ℕ) → i < n → n ≤ length l → f (getD l i 0) ≡ false → anyOf f (drop i (take n l)) ≡ anyOf f (drop (i + 1) (take n l))
+any-behind f l n i h m e = any-from f l n i h m ∙ rw e
 
-  pub any-rest : anyOf f (take (n - 1) l) ≡ false → anyOf f (take n l) ≡ f (getD l (n - 1) 0)
-  any-rest e = last-is ∙ rw e
+pub any-none : (f : ℕ → Bool) (l : List ℕ) (n i : ℕ) → n ≤ i → anyOf f (drop i (take n l)) ≡ false
+any-none f l n i h =
+    let k : length (take n l) ≤ i = rw (length-take n l) (omega arith) in
+    rw (drop-of-length-le (take n l) k)
 
 -- the entries of a store, and how many there are
 abbrev pub entries : Store → Memo → List ℕ

@@ -51,20 +51,19 @@ pub fn counted(t: &[u32], used: u16) -> &[u32]
     if n <= t.len() { &t[..n] } else { t }
 }
 
-// Does one of the first entries mean the same as the node n? It calls itself, and not in its last step: what `same` needs of the stack then stays out of the readers' own frames.
+// Does one of the first entries mean the same as the node n?
 fn holds(front: &[u32], s: &[u8], entries: [u16; 10], len: u8, n: u16) -> bool
     requires { ⌜ len ≤ 10 ⌝ }
     ensures { λ r. ⌜ r ≡ anyOf (λ e. eqTree (treeOf (now (front .entry)) (now (s .entry)) (n + 1)) (treeOf (now (front .entry)) (now (s .entry)) (e + 1))) (take len entries) ⌝ }
 {
-    if len == 0 {
-        return false;
+    let mut i = 0;
+    while i < (len as usize) {
+        if meaning::same(front, s, (n as usize) + 1, (entries[i] as usize) + 1) {
+            return true;
+        }
+        i += 1;
     }
-    let last = len - 1;
-    if holds(front, s, entries, last, n) {
-        return true;
-    }
-    let i = last as usize;
-    meaning::same(front, s, (n as usize) + 1, (entries[i] as usize) + 1)
+    false
 }
 
 // The state with so many names and types in use.
