@@ -55,7 +55,7 @@ fn equal_to_the_last(names: usize, list: &str, most: usize) -> String {
 }
 
 fn equality(symbols: &mut Vec<Hostile>) {
-    for (names, length) in [(8, 252), (9, 258), (7, 280), (9, 130), (5, 500), (2, 1500)] {
+    for (names, length) in [(8, 252), (9, 200), (7, 280), (9, 130), (5, 500), (2, 1500)] {
         let what = format!("{names} templates of {length} parameters, compared again and again");
         let symbol = equal_to_the_last(names, &"X".repeat(length), LONGEST);
         symbols.push(hostile(what, symbol));

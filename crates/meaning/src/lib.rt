@@ -299,8 +299,8 @@ fn same_linked(table: &[u32], symbol: &[u8], r: usize, q: usize) -> usize
     }
 }
 
-// The budget of a plain recursion: 64 visits, and 2.
-const VISITS: usize = 66;
+// The budget of a plain recursion: 128 visits, and 2.
+const VISITS: usize = 130;
 
 // The answer when the budget is spent.
 const SPENT: usize = 1;
@@ -325,7 +325,7 @@ fn plain_kid(table: &[u32], symbol: &[u8], i: usize, j: usize, c: usize, left: u
 // The outermost call, which has all of it, answers with links then. A caller would get the array of links into its frame; this calls itself, and does not.
 fn plain(table: &[u32], symbol: &[u8], r: usize, q: usize, left: usize) -> usize
     requires { ⌜ (r ≤ nodes (now table)) × (q ≤ nodes (now table)) × (2 ≤ left) ⌝ }
-    ensures { λ v. ⌜ Judged (eqTree (treeOf (now (table .entry)) (now (symbol .entry)) r) (treeOf (now (table .entry)) (now (symbol .entry)) q)) v × (left ≡ 66 → v ≡ 1 → ⊥) ⌝ }
+    ensures { λ v. ⌜ Judged (eqTree (treeOf (now (table .entry)) (now (symbol .entry)) r) (treeOf (now (table .entry)) (now (symbol .entry)) q)) v × (left ≡ 130 → v ≡ 1 → ⊥) ⌝ }
 {
     if r == q {
         return left;
