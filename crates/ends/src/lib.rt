@@ -128,7 +128,8 @@ pub fn no_type(t: &mut [u32], st: Spot, lim: Limits, depth: u16) -> Got
     shut_leaf(t, opened(st, lim.depth, depth - 1), lim, 17, 0, 0)
 }
 
-fn less_one(n: u32) -> u32
+// n less one, or 0.
+pub fn less_one(n: u32) -> u32
     ensures { λ r. ⌜ r ≡ n - 1 ⌝ }
 {
     if 0 < n { n - 1 } else { 0 }

@@ -29,6 +29,7 @@ use Rattle.forms.specs.declared.begins.NameStart.{NameStart}
 use Rattle.grammar.specs.Program.{Reply, found, refused, Out, out, run}
 use Rattle.grammar.specs.Words.{leafIs, leaf}
 use Rattle.grammar.proofs.Leaves.{hex-fits, EncodedFits, encoded-fits}
+use Rattle.shapes.proofs.Spellings.{place-room}
 use Rattle.steps.specs.Does.{Lent, lent, full, does, valued, Values}
 use Rattle.steps.specs.declared.state.Spot.{Spot}
 use Rattle.steps.specs.declared.state.Value.{Value}
@@ -109,20 +110,17 @@ room-encoded at most (encoded.Chars long start n) f h l = (f .1, omega arith)
 room-encoded at most (encoded.Bad n) f h l = omega arith
 
 module _ (s : List ℕ) (at : ℕ) (short : length s ≤ 4096) (low : at < 65536) where
-  room : (n : ℕ) → n ≤ length (drop at s) → at + n < 65536
-  room n h = omega (arith, length-drop at s)
-
   pub parse-room : {b : ParseStart} → b ≡ parseStart (drop at s) → at + b .taken < 65536
-  parse-room e = rw e (room (parseStart (drop at s) .taken) (parse-fits (drop at s)))
+  parse-room e = rw e (place-room s at (parseStart (drop at s) .taken) short low (parse-fits (drop at s)))
 
   pub symbol-room : {b : SymbolStart} → b ≡ symbolStart (drop at s) → at + b .taken < 65536
-  symbol-room e = rw e (room (symbolStart (drop at s) .taken) (symbol-fits (drop at s)))
+  symbol-room e = rw e (place-room s at (symbolStart (drop at s) .taken) short low (symbol-fits (drop at s)))
 
   pub name-room : {b : NameStart} → b ≡ nameStart (drop at s) → at + b .taken < 65536
-  name-room e = rw e (room (nameStart (drop at s) .taken) (name-fits (drop at s)))
+  name-room e = rw e (place-room s at (nameStart (drop at s) .taken) short low (name-fits (drop at s)))
 
   pub hex-room : {n : ℕ} → n ≡ readHexDigits (drop at s) → at + n < 65536
-  hex-room e = rw e (room (readHexDigits (drop at s)) (hex-fits (drop at s)))
+  hex-room e = rw e (place-room s at (readHexDigits (drop at s)) short low (hex-fits (drop at s)))
 
   -- by the case that was found
   pub encoded-room : (width : ℕ) {e x : Encoded} → e ≡ readEncodedString width (drop at s) → e ≡ x → EncodedRoom at x

@@ -13,7 +13,7 @@ use Rattle.grammar.specs.Words.{leaf, unsigned, memorizeName}
 use Rattle.node.specs.Kind.{Operator}
 use Rattle.grammar.specs.Table.{laid}
 use Rattle.grammar.specs.Grammar.{Reading, close, rttiTypeDescriptor, rttiBaseClassDescriptor, isGuard, indexAndOne, guardIndex}
-use Rattle.steps.specs.Does.{runs, does, Values, Leads}
+use Rattle.steps.specs.Does.{runs, Values, Leads}
 use Rattle.steps.specs.declared.state.Spot.{Spot}
 use Rattle.steps.specs.declared.state.Value.the-variants.{Is, Bad}
 use Rattle.steps.specs.declared.state.Took.{Took}

@@ -23,7 +23,7 @@ use Rattle.steps.proofs.Leads.{leads-ordered}
 use Rattle.shapes.specs.Shapes.{basicOf}
 
 -- places stay within sixteen bits
-place-room : (s : List ℕ) (at n : ℕ) → length s ≤ 4096 → at < 65536 → n ≤ length (drop at s) → at + n < 65536
+pub place-room : (s : List ℕ) (at n : ℕ) → length s ≤ 4096 → at < 65536 → n ≤ length (drop at s) → at + n < 65536
 place-room s at n short low h = let e = length-drop at s in omega arith
 
 start-fits : (r : List ℕ) → typeStart r .taken ≤ length r

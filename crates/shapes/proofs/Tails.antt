@@ -7,20 +7,20 @@ use mathlib.Core.Bool.{Bool, true, false}
 use lib.Dec.{leb}
 use lib.ListN.{length, drop}
 use Rattle.letters.specs.Classes.{readCallingConv, readStorageClassForReturn, readQualifier}
-use Rattle.letters.specs.declared.Class.{Class}
 use Rattle.letters.proofs.Spelled.{sized-qualifier}
-use Rattle.grammar.specs.Program.{ret, sub, node, Reply, found, refused, Out, run}
+use Rattle.grammar.specs.Program.{ret, sub, node}
 use Rattle.grammar.specs.Words.{leaf, class}
 use Rattle.node.specs.Kind.{MemberFunction, NonMemberFunction}
 use Rattle.grammar.specs.Table.{laid}
 use Rattle.grammar.specs.Grammar.{Reading, close, to, varType, funcReturnType, funcParams, plainFunction}
 use Rattle.grammar.specs.declared.Refusal.the-variants.{Syntax}
-use Rattle.steps.specs.Does.{Lent, lent, plain, refusedAt, Does, Classes, Leads}
+use Rattle.steps.specs.Does.{Lent, plain, refusedAt, Does, Classes, Leads}
 use Rattle.steps.specs.declared.state.Spot.{Spot}
 use Rattle.steps.specs.declared.state.Got.{Got}
 use Rattle.steps.specs.declared.state.Classed.{Classed}
 use Rattle.steps.proofs.Laws.{does-fail}
 use Rattle.steps.proofs.More.{does-as}
+use Rattle.steps.proofs.Choices.{class-says}
 use Rattle.steps.proofs.Leads.{Alike, alike-sub, alike-node}
 use Rattle.shapes.specs.Shapes.{headed, tailIf, signed, tailOf, returned, conventions}
 use Rattle.shapes.specs.declared.heads.Headed.{Headed}
@@ -63,13 +63,5 @@ pub classes-leads : {s : List ℕ} {p q : Reading ℕ} {st st′ : Spot} {r : Cl
 classes-leads a c = record { is = λ limit room d t. c .is limit room d t ∙ sym (a .is limit room d t) }
 
 -- the bits of a qualifier are few
-bits-said : Reply ℕ → ℕ
-bits-said (found n) = n
-bits-said (refused why) = 0
-
-class-says : {s : List ℕ} (f : List ℕ → Class) {st : Spot} {r : Classed} → Classes s (class f) st r → r .bits ≡ f (drop (st .at) s) .bits
-unfolding run bits-said
-class-says f q = ap (λ (o : Out ℕ (List ℕ)). bits-said (o .reply)) (q .is 0 0 0 (lent [] [] []))
-
 pub qualifier-small : {s : List ℕ} {st : Spot} {r : Classed} → Classes s (class readQualifier) st r → r .bits ≤ 12
 qualifier-small {s} {st} q = rw (class-says readQualifier q) (sized-qualifier .bound (drop (st .at) s))

@@ -1,17 +1,15 @@
 -- What is left to read of each shape. Where a production of the grammar goes on by a letter, a number or a range that its text shows, a shape has it already.
 -- Assumes nothing: these are definitions.
-use Prim.Native.Nat.{ℕ, _+_, _-_}
-use mathlib.Core.List.{List, [], _∷_}
+use Prim.Native.Nat.{ℕ}
+use mathlib.Core.List.{[], _∷_}
 use mathlib.Core.Bool.{Bool, true, false}
-use lib.Dec.{eqb}
-use Rattle.scan.specs.Bytes.{pick}
 use Rattle.letters.specs.StorageClass.{PTR64}
 use Rattle.letters.specs.Classes.{readCallingConv, readStorageClass, readStorageClassForReturn, readQualifier}
 use Rattle.forms.specs.declared.begins.NameForm.{NameForm}
 use Rattle.forms.specs.declared.begins.NameForm.the-variants as form
 use Rattle.forms.specs.declared.types.TypeLetter.{TypeLetter}
 use Rattle.forms.specs.declared.types.TypeLetter.the-variants as letter
-use Rattle.grammar.specs.Program.{ret, fail, when, part, sub, node}
+use Rattle.grammar.specs.Program.{ret, fail, part, node}
 use Rattle.grammar.specs.Words.{_>>=_, _>>_, _⇒_∥_, expect, leaf, class, memorizeName, nameOf, number}
 use Rattle.node.specs.Kind.{RttiTypeDescriptor, RttiBaseClassDescriptor, Operator, ParsedName, NonMemberFunction, VCallThunk, Var}
 use Rattle.grammar.specs.Grammar.{Reading, Parse, Func, close, to, name′, varType, pointee, array, memberFunctionPointer, funcType, funcReturnType, funcParams, memberFunction, plainFunction, scope, templateName, nestedOf, specialName, isGuard}

@@ -1,12 +1,13 @@
 // The shape of a name.
 ghost use mathlib.Core.Path.{_≡_};
 ghost use mathlib.Core.Bool.{Bool};
-ghost use Prim.Native.Nat.{_≤_, _-_};
+ghost use Prim.Native.Nat.{_≤_};
 ghost use lib.ListN.{length};
 ghost use Rattle.grammar.specs.Grammar.{unqualifiedBody, nestedBody, nestedOf, plainName, specialName, rttiTypeDescriptor, rttiBaseClassDescriptor};
 ghost use Rattle.forms.specs.declared.begins.NameForm.the-variants.{AnonymousId, Anonymous, Interface, Discriminator};
 ghost use Rattle.steps.specs.Does.{Leads};
 ghost use Rattle.shapes.specs.Shapes.{shapeUnqualified, shapeName, nameFormOf, shapeSpecial, unguarded, baseEnd};
+use ends::less_one;
 use forms::begins::NameForm;
 use steps::leaves::expect;
 use steps::leaves::number;
@@ -37,13 +38,6 @@ fn shaped(shape: NameShape, st: Spot) -> NameShaped
     ensures { λ r. ⌜ r ≡ record { shape = shape; state = st } ⌝ }
 {
     NameShaped { shape, state: st }
-}
-
-// n less one, or 0.
-fn less_one(n: u32) -> u32
-    ensures { λ r. ⌜ r ≡ n - 1 ⌝ }
-{
-    if 0 < n { n - 1 } else { 0 }
 }
 
 // A plain name.

@@ -84,7 +84,7 @@ bits-said : Reply ℕ → ℕ
 bits-said (found n) = n
 bits-said (refused why) = 0
 
-class-says : {s : List ℕ} (f : List ℕ → Class) {st : Spot} {r : Classed} → Classes s (class f) st r → r .bits ≡ f (drop (st .at) s) .bits
+pub class-says : {s : List ℕ} (f : List ℕ → Class) {st : Spot} {r : Classed} → Classes s (class f) st r → r .bits ≡ f (drop (st .at) s) .bits
 unfolding run bits-said
 class-says f q = ap (λ (o : Out ℕ (List ℕ)). bits-said (o .reply)) (q .is 0 0 0 (lent [] [] []))
 
