@@ -2,17 +2,17 @@
 use Prim.Native.Nat.{ℕ, zero, suc, _+_, _-_, _<_, _≤_}
 use mathlib.Core.Logic.{_⊎_, inl, inr, ⊎-elim}
 use mathlib.Core.Path.{_≡_, refl, sym, ap, _∙_}
-use mathlib.Core.List.{List, [], _∷_}
+use mathlib.Core.List.{List}
 use mathlib.Core.Bool.{Bool, true, false}
 use native.Mathlib.Omega.{arith}
 use native.Mathlib.Numerals.{sub-one}
 use lib.Dec.{leb}
 use lib.ListN.{length, drop}
 use Rattle.scan.specs.Bytes.{pick, bytes, starts}
-use Rattle.grammar.specs.Program.{ret, fail, look, when, sub}
+use Rattle.grammar.specs.Program.{ret, sub}
 use Rattle.grammar.specs.Words.{_>>=_, _⇒_∥_, _↝_∥_, digit, atEnd}
 use Rattle.node.specs.Kind.{NamePlace}
-use Rattle.grammar.specs.Grammar.{Reading, place, nestedName, scopeFrom, scope, listEnd, storedParam, newParam, paramsFrom, params}
+use Rattle.grammar.specs.Grammar.{place, nestedName, scopeFrom, scope, listEnd, storedParam, newParam, paramsFrom, params}
 use Rattle.grammar.specs.declared.Refusal.the-variants.{Syntax}
 use Rattle.steps.specs.Does.{Lent, refusedAt, foundAt, plain, Does, Meets}
 use Rattle.steps.proofs.Laws.{does-ret, does-fail, does-look, does-when, does-else, on-met, on-unmet}

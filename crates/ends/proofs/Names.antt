@@ -6,7 +6,7 @@ use mathlib.Core.Bool.{Bool, true, false}
 use native.Mathlib.Omega.{arith}
 use borrow.Author.Tests.{lt-ltb, le-ltb}
 use lib.Dec.{ltb}
-use Rattle.grammar.specs.Program.{ret, sub, node, found, refused, Out, out, onward, run}
+use Rattle.grammar.specs.Program.{ret, sub, node, found, Out, out, onward, run}
 use Rattle.grammar.specs.Program as store
 use Rattle.grammar.specs.Table.{laid}
 use Rattle.grammar.specs.Grammar.{Reading, to}

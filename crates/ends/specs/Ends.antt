@@ -6,7 +6,7 @@ use mathlib.Core.Bool.{Bool, true, false}
 use lib.ListN.{length, drop}
 use lib.Dec.{leb, ltb}
 use Rattle.scan.specs.Bytes.{pick, bytes, starts}
-use Rattle.grammar.specs.Program.{ret, fail, look, when, skip, sub, node, found, refused, Out, out}
+use Rattle.grammar.specs.Program.{ret, fail, look, when, skip, node, found, refused, Out, out}
 use Rattle.grammar.specs.Counts.{opened}
 use Rattle.grammar.specs.Words.{_>>=_, _>>_, expect, here, setMemo, memorizeName, memorizeType}
 use Rattle.node.specs.Kind.{NamePlace, TypePlace, Template, Array}

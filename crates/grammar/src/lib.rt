@@ -1,4 +1,4 @@
-// What the readers of the grammar carry: declared beside the language, so that contracts need no second copy.
+// The state of a reading, declared beside the language that reads.
 pub struct Memo {
     pub names: [u16; 10],
     pub types: [u16; 10],

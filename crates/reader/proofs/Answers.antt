@@ -1,5 +1,5 @@
 -- A whole reading: what its readers give is what the written grammar's own demands settle, and what it leaves is fixed. Assumes nothing.
-use Prim.Native.Nat.{ℕ, _+_, _*_, _≤_, _<_, min}
+use Prim.Native.Nat.{ℕ, _*_, _≤_, _<_, min}
 use mathlib.Core.Path.{_≡_, refl, sym, ap, subst, _∙_}
 use mathlib.Core.List.{List, _++_}
 use mathlib.Core.Bool.{Bool, true, false}
@@ -9,21 +9,19 @@ use lib.Dec.{leb}
 use lib.ListN.{length, drop, replicate}
 use Rattle.scan.specs.Bytes.{pick}
 use Rattle.node.specs.Cells.{nodes}
-use Rattle.grammar.specs.Program.{Reply, found, refused, Out, out}
+use Rattle.grammar.specs.Program.{found, refused, Out}
 use Rattle.grammar.specs.Counts.{Node}
-use Rattle.grammar.specs.Table.{cellsOf, readTable}
+use Rattle.grammar.specs.Table.{readTable}
 use Rattle.grammar.specs.Grammar.{Parse, body}
 use Rattle.grammar.specs.declared.State.{State}
 use Rattle.grammar.specs.declared.Refusal.{Refusal}
-use Rattle.grammar.proofs.Table.{Agree, Holds, used-fits, cleared, capped-held}
+use Rattle.grammar.proofs.Table.{Agree, used-fits, cleared, capped-held}
 use Rattle.steps.specs.Does.{lent, full, plain, goes, Reads}
 use Rattle.steps.specs.declared.state.Spot.{Spot}
 use Rattle.steps.specs.declared.state.Got.{Got}
 use Rattle.steps.specs.declared.state.Answer.the-variants as answer
-use Rattle.reader.specs.Whole.{start, whole, inside, told, outcome, answered, cellsLeft, tableLeft}
-use Rattle.reader.specs.declared.Whole.{Whole}
+use Rattle.reader.specs.Whole.{start, whole, inside, answered, tableLeft}
 use Rattle.reader.specs.declared.Whole.the-variants.{Outside, Root, Refused}
-use Rattle.reader.specs.declared.Outcome.{Outcome}
 
 inside-true : (s : List ℕ) (limit : ℕ) → length s ≤ 4096 → limit ≤ 200 → inside s limit ≡ true
 inside-true s limit short low = rw (le-leb (length s) 4096 short, le-leb limit 200 low)

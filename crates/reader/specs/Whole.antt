@@ -1,8 +1,7 @@
 -- A whole reading: what it answers and what it leaves in the table. Assumes nothing: these are definitions.
 use Prim.Native.Nat.{ℕ, _*_}
-use mathlib.Core.Path.{_≡_}
 use mathlib.Core.List.{List, _++_}
-use mathlib.Core.Bool.{Bool, true, false}
+use mathlib.Core.Bool.{Bool, false}
 use lib.ListN.{length, drop, replicate}
 use lib.Dec.{leb}
 use Rattle.scan.specs.Bytes.{pick}

@@ -1,39 +1,32 @@
 -- The rules by which a reader's proof follows its production, a word at a time: each takes what a function promises.
 -- Assumes nothing.
-use Prim.Native.Nat.{ℕ, zero, suc, _+_, _-_, _≤_, _<_, max}
+use Prim.Native.Nat.{ℕ, zero, suc, _-_, _<_}
 use Prim.Native.String.{String}
 use Prim.Native.Char.{code}
-use mathlib.Core.Path.{_≡_, refl, sym, ap, subst, _∙_}
+use mathlib.Core.Path.{_≡_, refl, sym, ap, _∙_}
 use mathlib.Core.List.{List, [], _∷_}
 use mathlib.Core.Bool.{Bool, true, false}
 use native.Mathlib.Omega.{arith}
 use native.Mathlib.Numerals.{sub-one}
-use native.Mathlib.Nat.{max-zero}
-use lib.ListN.{length, drop, getD, length-drop}
-use lib.Dec.{leb, eqb}
+use lib.ListN.{length, drop, getD}
+use lib.Dec.{leb}
 use borrow.Author.Tests.{lt-leb}
 use Rattle.scan.specs.Bytes.{pick, bytes, starts, isDigit}
-use Rattle.scan.specs.declared.cursor.Leaf.{Leaf}
-use Rattle.scan.specs.declared.cursor.Leaf.the-variants as leafs
-use Rattle.scan.specs.declared.cursor.Span.{Span}
-use Rattle.scan.specs.declared.cursor.Span.the-variants as spans
-use Rattle.letters.specs.declared.Class.{Class}
 use Rattle.forms.specs.Types.{typeReference}
 use Rattle.forms.specs.declared.types.Reference.{Reference}
 use Rattle.forms.specs.declared.types.Reference.the-variants.{Stored, Absent}
 use Rattle.node.specs.Cells as table
 use Rattle.node.specs.declared.Node as row
-use Rattle.grammar.specs.Program.{Program, ret, fail, look, when, skip, recall, keep, store, part, sub, node, found, refused, Reply, Out, out, onward, andThen, run, Store, added, with}
-use Rattle.grammar.specs.Counts.{opened, rises}
-use Rattle.grammar.specs.Words.{_⇒_∥_, _↝_∥_, expect, leafIs, leaf, spanIs, span, classIs, class, digit, byteAt, atEnd, nameOf, typeOf}
+use Rattle.grammar.specs.Program.{ret, fail, look, when, store, part, sub, node, found, refused, Reply, Out, out, onward, andThen, run, Store}
+use Rattle.grammar.specs.Counts.{opened}
+use Rattle.grammar.specs.Words.{_⇒_∥_, _↝_∥_, expect, digit, byteAt, typeOf}
 use Rattle.grammar.proofs.Funded.{true-false}
-use Rattle.grammar.specs.Table.{laid, counted, tallestIn, shutAt, shutTable, sameTable, readTable}
+use Rattle.grammar.specs.Table.{laid, counted, tallestIn, shutTable, readTable}
 use Rattle.grammar.specs.Grammar.{Tag, VarType, Ans, Reading, body, referenceOr, varType}
-use Rattle.grammar.specs.declared.Memo.{Memo}
 use Rattle.grammar.specs.declared.State.{State}
 use Rattle.grammar.specs.declared.Refusal.{Refusal}
-use Rattle.grammar.specs.declared.Refusal.the-variants.{Syntax, Deep, Full}
-use Rattle.steps.specs.Does.{Lent, lent, full, further, opening, refusedAt, foundAt, View, plain, guarded, sized, value, said, goes, runs, does, Does, Reads, Follows, valued, Values, Classes, tookLeaf, tookSpan, Meets, Digits, tookReference, Refers, Leads, Finds, Keeps, raised, shutCells, Shuts, Tops}
+use Rattle.grammar.specs.declared.Refusal.the-variants.{Syntax, Deep}
+use Rattle.steps.specs.Does.{Lent, lent, full, further, opening, refusedAt, foundAt, View, plain, guarded, value, said, goes, runs, does, Does, Reads, Follows, Values, Classes, Meets, Digits, tookReference, Refers, Leads, Finds, Keeps, shutCells, Shuts, Tops}
 use Rattle.steps.specs.declared.state.Spot.{Spot}
 use Rattle.steps.specs.declared.state.Answer.{Answer}
 use Rattle.steps.specs.declared.state.Answer.the-variants.{Node, Refused}

@@ -1,22 +1,21 @@
 -- The rules by which a shape's proof follows its production: the bytes that a function reads go, and what is left of the production is to be read behind them.
 -- Assumes nothing.
-use Prim.Native.Nat.{ℕ, _+_}
+use Prim.Native.Nat.{ℕ}
 use Prim.Native.String.{String}
 use mathlib.Core.Path.{_≡_, refl, sym, ap, _∙_}
-use mathlib.Core.List.{List, [], _∷_}
+use mathlib.Core.List.{List}
 use mathlib.Core.Bool.{Bool, true, false}
 use lib.Dec.{leb}
 use lib.ListN.{length, drop}
-use Rattle.scan.specs.Bytes.{pick, bytes, starts, spelled}
-use Rattle.node.specs.declared.Node as row
-use Rattle.grammar.specs.Program.{ret, fail, look, when, skip, sub, node, found, refused, Reply, Out, out, onward, run}
-use Rattle.grammar.specs.Words.{_⇒_∥_, _↝_∥_, expect, here, ordered}
+use Rattle.scan.specs.Bytes.{bytes, starts, spelled}
+use Rattle.grammar.specs.Program.{ret, fail, look, when, sub, node, found, refused, Reply, Out, onward, run}
+use Rattle.grammar.specs.Words.{_⇒_∥_, expect, here, ordered}
 use Rattle.grammar.specs.Table.{laid, sameTable, shutTable, readTable}
 use Rattle.grammar.specs.Grammar.{Reading, body}
 use Rattle.grammar.specs.declared.State.{State}
-use Rattle.grammar.proofs.Ordered.{Choice, none, chosen, ordered-decided}
-use Rattle.steps.specs.Does.{Lent, full, further, runs, does, Values, Classes, Meets, Leads, shutCells}
-use Rattle.steps.proofs.Laws.{met, unmet, Closing, closing-node}
+use Rattle.grammar.proofs.Ordered.{none, chosen, ordered-decided}
+use Rattle.steps.specs.Does.{Lent, full, further, runs, does, Values, Classes, Meets, Leads}
+use Rattle.steps.proofs.Laws.{met, unmet, closing-node}
 use Rattle.steps.specs.declared.state.Spot.{Spot}
 use Rattle.steps.specs.declared.state.Value.the-variants.{Is, Bad}
 use Rattle.steps.specs.declared.state.Took.{Took}

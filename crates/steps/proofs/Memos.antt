@@ -1,11 +1,11 @@
 -- The memo's entries, and whether one of the first of them is equal. Assumes nothing.
-use Prim.Native.Nat.{ℕ, zero, suc, _+_, _-_, _≤_, _<_}
+use Prim.Native.Nat.{ℕ, _+_, _≤_, _<_}
 use mathlib.Core.Path.{_≡_, refl, sym, ap, _∙_}
-use mathlib.Core.List.{List, [], _∷_}
+use mathlib.Core.List.{List}
 use mathlib.Core.Bool.{Bool, true, false}
 use native.Mathlib.Omega.{arith}
 use native.Mathlib.Numerals.{add-one}
-use lib.ListN.{length, getD, take, drop, set, length-take, drop-of-length-le, List·getD-eq-default}
+use lib.ListN.{length, getD, take, drop, set, length-take, drop-of-length-le}
 use lib.Dec.{ltb}
 use borrow.Author.Tests.{lt-ltb, le-ltb}
 use lib.Seq.{drop-cons, getD-take}
@@ -16,7 +16,7 @@ use Rattle.grammar.specs.Table.{counted, sameTable}
 use Rattle.grammar.specs.Grammar.{Reading}
 use Rattle.grammar.specs.declared.Memo.{Memo}
 use Rattle.grammar.specs.declared.Refusal.the-variants.{Syntax}
-use Rattle.steps.specs.Does.{Lent, lent, full, counting, refusedAt, foundAt, Finds, Keeps}
+use Rattle.steps.specs.Does.{Lent, full, refusedAt, foundAt, Finds, Keeps}
 use Rattle.steps.specs.declared.state.Spot.{Spot}
 use Rattle.steps.specs.declared.state.Got.{Got}
 

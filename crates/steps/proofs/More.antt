@@ -1,30 +1,21 @@
 -- More rules for readers: the place and the memo, answers seen as a node alone, programs in another order of brackets, and the lists. Assumes nothing.
-use Prim.Native.Nat.{ℕ, zero, suc, _+_, _-_, _<_, _≤_}
-use mathlib.Core.Path.{_≡_, refl, sym, ap, subst, _∙_}
-use mathlib.Core.List.{List, [], _∷_}
+use Prim.Native.Nat.{ℕ, zero, suc, _-_, _<_, _≤_}
+use mathlib.Core.Path.{_≡_, refl, sym, ap, _∙_}
+use mathlib.Core.List.{List}
 use mathlib.Core.Bool.{Bool, true, false}
 use native.Mathlib.Omega.{arith}
-use native.Mathlib.Numerals.{sub-one}
-use lib.Dec.{leb}
-use lib.ListN.{length, drop}
-use Rattle.scan.specs.Bytes.{pick, bytes, starts}
-use Rattle.grammar.specs.Program.{ret, fail, look, when, part, sub, found, refused, Reply, Out, out, onward, run, with}
+use Rattle.grammar.specs.Program.{ret, part, sub, found, refused, Reply, Out, out, onward, run, with}
 use Rattle.grammar.specs.Words.{here, memo, setMemo, refuseIf}
 use Rattle.grammar.specs.Table.{readTable}
-use Rattle.node.specs.Kind.{NamePlace}
 use Rattle.grammar.specs.Grammar.{Tag, Dimension, Ans, Reading, nestedArray, element}
 use Rattle.grammar.specs.declared.Memo.{Memo}
 use Rattle.grammar.specs.declared.State.{State}
-use Rattle.grammar.specs.declared.Refusal.{Refusal}
 use Rattle.grammar.specs.declared.Refusal.the-variants.{Syntax, Deep}
-use Rattle.steps.specs.Does.{Lent, lent, memoOf, full, counting, refusedAt, foundAt, View, plain, guarded, sized, value, said, goes, runs, does, Does, Meets}
-use Rattle.steps.proofs.Laws.{does-ret, does-fail, does-look, does-when, does-else, on-met, on-unmet}
+use Rattle.steps.specs.Does.{Lent, lent, memoOf, full, counting, refusedAt, View, plain, guarded, sized, said, runs, does, Does}
 use Rattle.steps.specs.declared.state.Spot.{Spot}
 use Rattle.steps.specs.declared.state.Answer.{Answer}
 use Rattle.steps.specs.declared.state.Answer.the-variants.{Node, Refused}
 use Rattle.steps.specs.declared.state.Got.{Got}
-use Rattle.steps.specs.declared.state.Value.the-variants.{Is, Bad}
-use Rattle.steps.specs.declared.state.Took.{Took}
 
 onward-assoc :
     {A B C T : Type 0} (r : Reply C) (st : State) (t : T) (f : C → State → T → Out B T) (h : B → State → T → Out A T) →

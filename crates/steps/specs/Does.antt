@@ -1,8 +1,8 @@
 -- What the functions of a reading promise, by the programs that they follow. Assumes nothing: these are definitions.
-use Prim.Native.Nat.{ℕ, _+_, _-_, _*_, _<_, max}
+use Prim.Native.Nat.{ℕ, _+_, _-_, _<_, max}
 use mathlib.Core.Path.{_≡_}
 use mathlib.Core.List.{List, [], _∷_}
-use mathlib.Core.Bool.{Bool, true, false}
+use mathlib.Core.Bool.{Bool}
 use lib.ListN.{length, drop}
 use lib.Dec.{leb, eqb}
 use Prim.Native.Char.{code}
@@ -14,7 +14,7 @@ use Rattle.scan.specs.declared.cursor.Span.the-variants as span
 use Rattle.letters.specs.declared.Class.{Class}
 use Rattle.node.specs.Cells.{stored}
 use Rattle.node.specs.declared.Node as row
-use Rattle.grammar.specs.Program.{Program, ret, sub, node, found, refused, Reply, Out, out, andThen, run, Store, added, with}
+use Rattle.grammar.specs.Program.{ret, sub, node, found, refused, Reply, Out, out, andThen, run, Store, added, with}
 use Rattle.forms.specs.Types.{typeReference}
 use Rattle.forms.specs.declared.types.Reference.{Reference}
 use Rattle.forms.specs.declared.types.Reference.the-variants.{Stored, Absent}
@@ -25,7 +25,7 @@ use Rattle.grammar.specs.Grammar.{Tag, Ans, Reading, body, to}
 use Rattle.grammar.specs.declared.State.{State}
 use Rattle.grammar.specs.declared.Refusal.{Refusal}
 use Rattle.grammar.specs.declared.Memo.{Memo}
-use Rattle.grammar.specs.declared.Refusal.the-variants.{Syntax, Deep, Full}
+use Rattle.grammar.specs.declared.Refusal.the-variants.{Syntax, Full}
 use Rattle.steps.specs.declared.state.Spot.{Spot}
 use Rattle.steps.specs.declared.state.Answer.{Answer}
 use Rattle.steps.specs.declared.state.Answer.the-variants.{Node, Refused}
