@@ -1,17 +1,17 @@
 -- What a well-formed table is known for. Assumes nothing.
-use Prim.Native.Nat.{ℕ, zero, suc, _+_, _^_, _≤_, _<_}
+use Prim.Native.Nat.{ℕ, zero, suc, _+_, _≤_, _<_}
 use mathlib.Core.Bool.{Bool, true, false, cond}
 use mathlib.Core.Path.{_≡_, refl, sym, ap, ap₂, _∙_}
-use mathlib.Core.List.{List, [], _∷_}
+use mathlib.Core.List.{List, []}
 use native.Mathlib.Numerals.{add-one}
 use native.Mathlib.Decide.{ℕ-discrete, decLe}
 use native.Mathlib.Omega.{arith}
-use lib.Dec.{ltb, eqb}
-use lib.ListN.{getD}
-use borrow.Author.Tests.{ltb-true, ne-eqb, lt-leb}
+use lib.Dec.{leb, eqb}
+use lib.ListN.{List·getD-eq-default}
+use borrow.Author.Tests.{ne-eqb, lt-leb}
 use Rattle.node.specs.Cells.{cellOf}
-use Rattle.form.specs.Kinds.{shapes, shapeOf}
-use Rattle.form.specs.Form.{refOk, refsOk, nodeOk, wellFormed}
+use Rattle.form.specs.Kinds.{shapes, shapeOf, wholeShape}
+use Rattle.form.specs.Form.{refOk, numberOk, refsOk, nodeOk, wellFormed}
 
 true-false : {A : Type 0} → true ≡ false → A
 true-false e = let z : _≡_ {A = ℕ} 0 1 = cc in absurd (omega arith)
@@ -28,27 +28,13 @@ cond-else : (a b : Bool) → cond a false b ≡ true → b ≡ true
 cond-else true b e = true-false (sym e)
 cond-else false b e = e
 
--- each number of the shapes is a u32
-abbrev small : List ℕ → Bool
-small [] = true
-small (x ∷ xs) = cond (ltb x (2 ^ 32)) (small xs) false
+-- a kind that is not known has the shape of none
+pub no-shape : (kind : ℕ) → 64 ≤ kind → wholeShape 0 ≡ wholeShape kind
+unfolding wholeShape shapeOf
+no-shape kind h = rw (List·getD-eq-default shapes [] h)
 
-small-at : (xs : List ℕ) → small xs ≡ true → (i : ℕ) → getD xs i 0 < 2 ^ 32
-small-at [] e i = omega arith
-small-at (x ∷ xs) e zero = ltb-true x (2 ^ 32) (cond-left (ltb x (2 ^ 32)) (small xs) e)
-small-at (x ∷ xs) e (suc i) = small-at xs (cond-right (ltb x (2 ^ 32)) (small xs) e) i
-
-abbrev all-small : List (List ℕ) → Bool
-all-small [] = true
-all-small (row ∷ rows) = cond (small row) (all-small rows) false
-
-rows-small : (rows : List (List ℕ)) → all-small rows ≡ true → (k j : ℕ) → getD (getD rows k []) j 0 < 2 ^ 32
-rows-small [] e k j = omega arith
-rows-small (row ∷ rows) e zero j = small-at row (cond-left (small row) _ e) j
-rows-small (row ∷ rows) e (suc k) j = rows-small rows (cond-right (small row) _ e) k j
-
-pub shape-small : (kind j : ℕ) → getD (getD shapes kind []) j 0 < 2 ^ 32
-shape-small = rows-small shapes refl
+pub past : (k : ℕ) → 63 ≤ k → (k ≡ 63 → ⊥) → 64 ≤ k
+past k h off = omega (arith, off)
 
 -- a reference that is right is at most the node's own number
 pub ref-le : (t : List ℕ) (n mask r : ℕ) → refOk t n mask r ≡ true → r ≤ n
@@ -60,8 +46,13 @@ ref-le t n mask r e = pick (decLe r n)
     pick (no h) = true-false (sym e ∙ rw (ne-eqb r 0 (λ q. h (omega arith)), lt-leb r n (omega (arith, h))))
 
 -- a reference's test, from what the code read for it
-pub ref-reads : (t : List ℕ) (n j i : ℕ) {mask r kind : ℕ} {x : Bool} → x ≡ refOk t n mask r → mask ≡ shapeOf kind j → kind ≡ cellOf t n 0 → r ≡ cellOf t n i → x ≡ refOk t n (shapeOf (cellOf t n 0) j) (cellOf t n i)
-ref-reads t n j i e em ek er = e ∙ ap₂ (refOk t n) (em ∙ ap (λ k. shapeOf k j) ek) er
+pub ref-reads : (t : List ℕ) (n j i : ℕ) {mask r : ℕ} {x : Bool} → x ≡ refOk t n mask r → mask ≡ shapeOf (cellOf t n 0) j → r ≡ cellOf t n i → x ≡ refOk t n (shapeOf (cellOf t n 0) j) (cellOf t n i)
+ref-reads t n j i e em er = e ∙ ap₂ (refOk t n) em er
+
+-- a number's test, from what the code read for it
+pub number-reads : (t : List ℕ) (n j : ℕ) {x most : ℕ} → x ≡ cellOf t n (7 + j) → most ≡ shapeOf (cellOf t n 0) (4 + j) → leb x most ≡ numberOk t n j
+unfolding numberOk
+number-reads t n j e em = ap₂ leb e em
 
 three : (a b c : Bool) → cond a (cond b c false) false ≡ true → (a ≡ true) × (b ≡ true) × (c ≡ true)
 three true true c e = (refl, refl, e)

@@ -2,6 +2,7 @@
 use Prim.Native.Nat.{ℕ, _+_}
 use mathlib.Core.List.{List, [], _∷_}
 use lib.ListN.{getD}
+use Rattle.form.specs.declared.Shape.{Shape}
 
 -- The classes of kinds, one bit each: a reference fits where a reading can put a node of its class. `nothing` is no reference at all.
 abbrev pub nothing : ℕ
@@ -166,3 +167,8 @@ shapes =
 -- number j of a kind's shape; 0 for a kind that is not known
 unfoldable pub shapeOf : ℕ → ℕ → ℕ
 shapeOf kind j = getD (getD shapes kind []) j 0
+
+-- a kind's shape, as the code hands it on
+unfoldable pub wholeShape : ℕ → Shape
+wholeShape kind =
+    record { class = shapeOf kind 0; a = shapeOf kind 1; b = shapeOf kind 2; c = shapeOf kind 3; p = shapeOf kind 4; q = shapeOf kind 5; r = shapeOf kind 6; s = shapeOf kind 7; ranged = shapeOf kind 8 }

@@ -1,102 +1,117 @@
 // Whether a node table is well formed: what a reading can leave.
 ghost use mathlib.Core.Path.{_≡_};
-ghost use Prim.Native.Nat.{_<_, _^_, max};
-ghost use Rattle.node.specs.Cells.{nodes};
-ghost use Rattle.form.specs.Kinds.{shapeOf};
-ghost use Rattle.form.specs.Form.{fits, refOk, heightOk, numberOk, numbersOk, rangeOk, restOk, refsOk, nodeOk, wellFormed};
+ghost use Prim.Native.Nat.{_≤_, _<_, max};
+ghost use Rattle.node.specs.Cells.{nodes, cellOf};
+ghost use Rattle.form.specs.Kinds.{wholeShape};
+ghost use Rattle.form.specs.Form.{fits, refOk, heightOk, numbersOk, rangeOk, restOk, refsOk, nodeOk, wellFormed};
 use node::cell;
 use node::height;
 use node::room;
 
-// By kind, nine numbers: what it is; what its three references may be; the largest of each of its four numbers; whether the first two are a range.
-const SHAPES: [[u32; 9]; 64] = [
-    [0, 0, 0, 0, 0, 0, 0, 0, 0], // 0 no kind
-    [64, 65, 14, 1, 0, 0, 0, 0, 0], // 1 NamePlace
-    [128, 129, 14336, 1, 0, 0, 0, 0, 0], // 2 TypePlace
-    [1024, 768, 53248, 1, 2147483648, 0, 0, 0, 0], // 3 ParseResult
-    [256, 22, 65, 1, 0, 0, 0, 0, 0], // 4 Symbol
-    [512, 46, 65, 1, 0, 0, 0, 0, 0], // 5 OuterSymbol
-    [32, 1, 1, 1, 4294967295, 4294967295, 0, 0, 1], // 6 Md5
-    [16, 1, 1, 1, 74, 0, 0, 0, 0], // 7 Operator
-    [16, 6144, 1, 1, 511, 0, 0, 0, 0], // 8 RttiTypeDescriptor
-    [
-        16,
-        1,
-        1,
-        1,
-        4294967295,
-        4294967295,
-        4294967295,
-        4294967295,
-        0,
-    ], // 9 RttiBaseClassDescriptor
-    [2, 1, 1, 1, 4294967295, 4294967295, 0, 0, 1], // 10 NonTemplate
-    [4, 1, 1, 1, 4294967295, 4294967295, 0, 0, 1], // 11 AsInterface
-    [2, 18, 129, 1, 0, 0, 0, 0, 0], // 12 Template
-    [8, 1, 1, 1, 4294967295, 0, 0, 0, 0], // 13 Discriminator
-    [8, 1024, 1, 1, 0, 0, 0, 0, 0], // 14 ParsedName
-    [4, 1, 1, 1, 4294967295, 4294967295, 0, 0, 1], // 15 AnonymousId
-    [8, 1, 1, 1, 0, 0, 0, 0, 0], // 16 Anonymous
-    [16384, 1, 1, 1, 0, 0, 0, 0, 0], // 17 None
-    [32768, 22528, 129, 1, 511, 4, 255, 0, 0], // 18 MemberFunction
-    [2048, 22528, 129, 256, 511, 4, 255, 0, 0], // 19 MemberFunctionPointer
-    [4096, 6144, 129, 1, 511, 4, 0, 0, 0], // 20 NonMemberFunction
-    [32768, 65, 1, 1, 511, 0, 0, 0, 0], // 21 CXXVBTable
-    [32768, 65, 1, 1, 511, 0, 0, 0, 0], // 22 CXXVFTable
-    [32768, 1, 1, 1, 4294967295, 4, 0, 0, 0], // 23 VCallThunk
-    [2048, 1, 1, 1, 4294967295, 0, 0, 0, 0], // 24 TemplateParameterWithIndex
-    [32768, 1, 1, 1, 4294967295, 0, 0, 0, 0], // 25 ThreadSafeStaticGuard
-    [2048, 1, 1, 1, 4294967295, 0, 0, 0, 0], // 26 Constant
-    [32768, 1, 1, 1, 4294967295, 4294967295, 0, 0, 1], // 27 ConstantString
-    [2048, 6144, 1, 1, 511, 0, 0, 0, 0], // 28 Ptr
-    [2048, 6144, 1, 1, 511, 0, 0, 0, 0], // 29 Ref
-    [2048, 6144, 1, 1, 511, 0, 0, 0, 0], // 30 RValueRef
-    [2048, 6144, 1, 1, 511, 4294967295, 0, 0, 0], // 31 Array
-    [32768, 6144, 1, 1, 511, 4, 0, 0, 0], // 32 Var
-    [2048, 256, 1, 1, 511, 0, 0, 0, 0], // 33 Alias
-    [2048, 256, 1, 1, 511, 0, 0, 0, 0], // 34 Struct
-    [2048, 256, 1, 1, 511, 0, 0, 0, 0], // 35 Union
-    [2048, 256, 1, 1, 511, 0, 0, 0, 0], // 36 Class
-    [2048, 256, 1, 1, 511, 0, 0, 0, 0], // 37 Enum
-    [2048, 1, 1, 1, 511, 0, 0, 0, 0], // 38 Void
-    [2048, 1, 1, 1, 511, 0, 0, 0, 0], // 39 Bool
-    [2048, 1, 1, 1, 511, 0, 0, 0, 0], // 40 Char
-    [2048, 1, 1, 1, 511, 0, 0, 0, 0], // 41 Schar
-    [2048, 1, 1, 1, 511, 0, 0, 0, 0], // 42 Uchar
-    [2048, 1, 1, 1, 511, 0, 0, 0, 0], // 43 Short
-    [2048, 1, 1, 1, 511, 0, 0, 0, 0], // 44 Ushort
-    [2048, 1, 1, 1, 511, 0, 0, 0, 0], // 45 Int
-    [2048, 1, 1, 1, 511, 0, 0, 0, 0], // 46 Uint
-    [2048, 1, 1, 1, 511, 0, 0, 0, 0], // 47 Long
-    [2048, 1, 1, 1, 511, 0, 0, 0, 0], // 48 Ulong
-    [2048, 1, 1, 1, 511, 0, 0, 0, 0], // 49 Int64
-    [2048, 1, 1, 1, 511, 0, 0, 0, 0], // 50 Uint64
-    [2048, 1, 1, 1, 511, 0, 0, 0, 0], // 51 Int128
-    [2048, 1, 1, 1, 511, 0, 0, 0, 0], // 52 Uint128
-    [2048, 1, 1, 1, 511, 0, 0, 0, 0], // 53 Wchar
-    [2048, 1, 1, 1, 511, 0, 0, 0, 0], // 54 Char8
-    [2048, 1, 1, 1, 511, 0, 0, 0, 0], // 55 Char16
-    [2048, 1, 1, 1, 511, 0, 0, 0, 0], // 56 Char32
-    [2048, 1, 1, 1, 511, 0, 0, 0, 0], // 57 Float
-    [2048, 1, 1, 1, 511, 0, 0, 0, 0], // 58 Double
-    [2048, 1, 1, 1, 511, 0, 0, 0, 0], // 59 Ldouble
-    [8192, 1, 1, 1, 0, 0, 0, 0, 0], // 60 VarArgs
-    [2048, 1, 1, 1, 0, 0, 0, 0, 0], // 61 EmptyParameterPack
-    [2048, 1, 1, 1, 0, 0, 0, 0, 0], // 62 Nullptr
-    [32768, 1, 1, 1, 0, 0, 0, 0, 0], // 63 RTTIType
-];
+// A kind's shape: its class; what its three references may be; the largest of its four numbers; 1 where the first two are a range.
+struct Shape {
+    class: usize,
+    a: usize,
+    b: usize,
+    c: usize,
+    p: usize,
+    q: usize,
+    r: usize,
+    s: usize,
+    ranged: usize,
+}
 
-const KINDS: usize = 64;
+const ANY: usize = 4294967295;
 
-fn shape(kind: usize, j: usize) -> usize
-    requires { ⌜ j < 9 ⌝ }
-    ensures { λ r. ⌜ (r ≡ shapeOf kind j) × (r < 2 ^ 32) ⌝ }
+const FIRST_TYPE: usize = 18;
+
+fn row(
+    class: usize,
+    a: usize,
+    b: usize,
+    c: usize,
+    p: usize,
+    q: usize,
+    r: usize,
+    s: usize,
+    ranged: usize,
+) -> Shape
+    ensures { λ x. ⌜ x ≡ record { class = class; a = a; b = b; c = c; p = p; q = q; r = r; s = s; ranged = ranged } ⌝ }
 {
-    if KINDS <= kind {
-        return 0;
+    Shape {
+        class,
+        a,
+        b,
+        c,
+        p,
+        q,
+        r,
+        s,
+        ranged,
     }
-    let row = SHAPES[kind];
-    row[j] as usize
+}
+
+// The shape of a kind below 18: places, symbols, names.
+fn name_shape(kind: usize) -> Shape
+    requires { ⌜ kind < 18 ⌝ }
+    ensures { λ x. ⌜ x ≡ wholeShape kind ⌝ }
+{
+    match kind {
+        1 => row(64, 65, 14, 1, 0, 0, 0, 0, 0), // NamePlace
+        2 => row(128, 129, 14336, 1, 0, 0, 0, 0, 0), // TypePlace
+        3 => row(1024, 768, 53248, 1, 2147483648, 0, 0, 0, 0), // ParseResult
+        4 => row(256, 22, 65, 1, 0, 0, 0, 0, 0), // Symbol
+        5 => row(512, 46, 65, 1, 0, 0, 0, 0, 0), // OuterSymbol
+        6 => row(32, 1, 1, 1, ANY, ANY, 0, 0, 1), // Md5
+        7 => row(16, 1, 1, 1, 74, 0, 0, 0, 0), // Operator
+        8 => row(16, 6144, 1, 1, 511, 0, 0, 0, 0), // RttiTypeDescriptor
+        9 => row(16, 1, 1, 1, ANY, ANY, ANY, ANY, 0), // RttiBaseClassDescriptor
+        10 => row(2, 1, 1, 1, ANY, ANY, 0, 0, 1), // NonTemplate
+        11 => row(4, 1, 1, 1, ANY, ANY, 0, 0, 1), // AsInterface
+        12 => row(2, 18, 129, 1, 0, 0, 0, 0, 0), // Template
+        13 => row(8, 1, 1, 1, ANY, 0, 0, 0, 0), // Discriminator
+        14 => row(8, 1024, 1, 1, 0, 0, 0, 0, 0), // ParsedName
+        15 => row(4, 1, 1, 1, ANY, ANY, 0, 0, 1), // AnonymousId
+        16 => row(8, 1, 1, 1, 0, 0, 0, 0, 0), // Anonymous
+        17 => row(16384, 1, 1, 1, 0, 0, 0, 0, 0), // None
+        _ => row(0, 0, 0, 0, 0, 0, 0, 0, 0),
+    }
+}
+
+// The shape of any other kind: types.
+fn type_shape(kind: usize) -> Shape
+    requires { ⌜ 18 ≤ kind ⌝ }
+    ensures { λ x. ⌜ x ≡ wholeShape kind ⌝ }
+{
+    match kind {
+        18 => row(32768, 22528, 129, 1, 511, 4, 255, 0, 0), // MemberFunction
+        19 => row(2048, 22528, 129, 256, 511, 4, 255, 0, 0), // MemberFunctionPointer
+        20 => row(4096, 6144, 129, 1, 511, 4, 0, 0, 0), // NonMemberFunction
+        21..=22 => row(32768, 65, 1, 1, 511, 0, 0, 0, 0), // CXXVBTable to CXXVFTable
+        23 => row(32768, 1, 1, 1, ANY, 4, 0, 0, 0), // VCallThunk
+        24 => row(2048, 1, 1, 1, ANY, 0, 0, 0, 0), // TemplateParameterWithIndex
+        25 => row(32768, 1, 1, 1, ANY, 0, 0, 0, 0), // ThreadSafeStaticGuard
+        26 => row(2048, 1, 1, 1, ANY, 0, 0, 0, 0), // Constant
+        27 => row(32768, 1, 1, 1, ANY, ANY, 0, 0, 1), // ConstantString
+        28..=30 => row(2048, 6144, 1, 1, 511, 0, 0, 0, 0), // Ptr to RValueRef
+        31 => row(2048, 6144, 1, 1, 511, ANY, 0, 0, 0), // Array
+        32 => row(32768, 6144, 1, 1, 511, 4, 0, 0, 0), // Var
+        33..=37 => row(2048, 256, 1, 1, 511, 0, 0, 0, 0), // Alias to Enum
+        38..=59 => row(2048, 1, 1, 1, 511, 0, 0, 0, 0), // Void to Ldouble
+        60 => row(8192, 1, 1, 1, 0, 0, 0, 0, 0), // VarArgs
+        61..=62 => row(2048, 1, 1, 1, 0, 0, 0, 0, 0), // EmptyParameterPack to Nullptr
+        63 => row(32768, 1, 1, 1, 0, 0, 0, 0, 0), // RTTIType
+        _ => row(0, 0, 0, 0, 0, 0, 0, 0, 0),
+    }
+}
+
+fn shape_of(kind: usize) -> Shape
+    ensures { λ x. ⌜ x ≡ wholeShape kind ⌝ }
+{
+    if kind < FIRST_TYPE {
+        return name_shape(kind);
+    }
+    type_shape(kind)
 }
 
 // Whether what stands in a class may stand where a mask of classes is asked for.
@@ -120,8 +135,8 @@ fn is_ref_ok(table: &[u32], n: usize, mask: usize, r: usize) -> bool
     if n <= m {
         return false;
     }
-    let kind = cell(table, m, 0);
-    is_fit(mask, shape(kind, 0))
+    let found = shape_of(cell(table, m, 0));
+    is_fit(mask, found.class)
 }
 
 fn larger(a: usize, b: usize) -> usize
@@ -146,34 +161,29 @@ fn is_height_ok(table: &[u32], n: usize) -> bool
     h == top + 1
 }
 
-// Whether number cell 7 + j of node n is no larger than its kind allows.
-fn is_number_ok(table: &[u32], n: usize, j: usize) -> bool
-    requires { ⌜ j < 4 ⌝ }
-    ensures { λ x. ⌜ x ≡ numberOk (now (table .entry)) n j ⌝ }
-{
-    cell(table, n, 7 + j) <= shape(cell(table, n, 0), 4 + j)
-}
-
-fn are_numbers_ok(table: &[u32], n: usize) -> bool
+// Whether each number of node n is no larger than its kind allows.
+fn are_numbers_ok(table: &[u32], n: usize, shape: Shape) -> bool
+    requires { ⌜ shape ≡ wholeShape (cellOf (now table) n 0) ⌝ }
     ensures { λ x. ⌜ x ≡ numbersOk (now (table .entry)) n ⌝ }
 {
-    if !is_number_ok(table, n, 0) {
+    if shape.p < cell(table, n, 7) {
         return false;
     }
-    if !is_number_ok(table, n, 1) {
+    if shape.q < cell(table, n, 8) {
         return false;
     }
-    if !is_number_ok(table, n, 2) {
+    if shape.r < cell(table, n, 9) {
         return false;
     }
-    is_number_ok(table, n, 3)
+    cell(table, n, 10) <= shape.s
 }
 
 // Whether the bytes that a node names lie in a symbol of len bytes.
-fn is_range_ok(table: &[u32], len: usize, n: usize) -> bool
+fn is_range_ok(table: &[u32], len: usize, n: usize, shape: Shape) -> bool
+    requires { ⌜ shape ≡ wholeShape (cellOf (now table) n 0) ⌝ }
     ensures { λ x. ⌜ x ≡ rangeOk (now (table .entry)) len n ⌝ }
 {
-    if shape(cell(table, n, 0), 8) == 0 {
+    if shape.ranged == 0 {
         return true;
     }
     cell(table, n, 7) + cell(table, n, 8) <= len
@@ -193,33 +203,34 @@ fn is_rest_ok(table: &[u32], n: usize) -> bool
 }
 
 // Whether the three references of a node name what its kind asks for.
-fn are_refs_ok(table: &[u32], n: usize) -> bool
+fn are_refs_ok(table: &[u32], n: usize, shape: Shape) -> bool
+    requires { ⌜ shape ≡ wholeShape (cellOf (now table) n 0) ⌝ }
     ensures { λ x. ⌜ x ≡ refsOk (now (table .entry)) n ⌝ }
 {
-    let kind = cell(table, n, 0);
-    if !is_ref_ok(table, n, shape(kind, 1), cell(table, n, 4)) {
+    if !is_ref_ok(table, n, shape.a, cell(table, n, 4)) {
         return false;
     }
-    if !is_ref_ok(table, n, shape(kind, 2), cell(table, n, 5)) {
+    if !is_ref_ok(table, n, shape.b, cell(table, n, 5)) {
         return false;
     }
-    is_ref_ok(table, n, shape(kind, 3), cell(table, n, 6))
+    is_ref_ok(table, n, shape.c, cell(table, n, 6))
 }
 
 // Whether a node is well formed, in a table for a symbol of len bytes.
 fn is_node_ok(table: &[u32], len: usize, n: usize) -> bool
     ensures { λ x. ⌜ x ≡ nodeOk (now (table .entry)) len n ⌝ }
 {
-    if shape(cell(table, n, 0), 0) == 0 {
+    let shape = shape_of(cell(table, n, 0));
+    if shape.class == 0 {
         return false;
     }
-    if !are_refs_ok(table, n) {
+    if !are_refs_ok(table, n, shape) {
         return false;
     }
-    if !are_numbers_ok(table, n) {
+    if !are_numbers_ok(table, n, shape) {
         return false;
     }
-    if !is_range_ok(table, len, n) {
+    if !is_range_ok(table, len, n, shape) {
         return false;
     }
     if !is_rest_ok(table, n) {

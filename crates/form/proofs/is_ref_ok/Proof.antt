@@ -3,8 +3,9 @@
 use mathlib.Core.Path.{_∙_, ap}
 use native.Mathlib.Omega.{arith}
 use borrow.Author.Tests.{eq-eqb, ne-eqb, le-leb, lt-leb}
-use Rattle.form.specs.Kinds.{shapeOf}
+use Rattle.form.specs.Kinds.{shapeOf, wholeShape}
 use Rattle.form.specs.Form.{refOk, fits}
+use Rattle.form.specs.declared.Shape.{Shape}
 use borrow.Author.Needs.{needs}
 use Rattle.form.proofs.is_ref_ok.Statement.{statement}
 use Rattle.form.proofs.is_ref_ok.Tie as tie
@@ -29,21 +30,21 @@ returns-2 c =
 cell-requires : tie.Need-cell-requires
 cell-requires c κs = search needs
 
-shape-requires : tie.Need-shape-requires
-shape-requires c κs = search needs
+shape-of-requires : tie.Need-shape-of-requires
+shape-of-requires c κs = search needs
 
 is-fit-requires-2 : tie.Need-is-fit-requires-2
 is-fit-requires-2 c κs = search needs
 
 returns-3 : tie.Need-returns-3
-unfolding refOk
+unfolding refOk wholeShape
 returns-3 c =
-    let at-shape = c .before in
-    let at-cell = at-shape .before in
+    let at-shape-of = c .before in
+    let at-cell = at-shape-of .before in
     let at-if2 = at-cell .before in
     let at-if1 = at-if2 .before in
     let entry = at-if1 .before .before in
-    rw (ne-eqb _ _ (at-if1 .if1 .left), le-leb (entry .args .r) (entry .args .n) (omega (arith, at-if2 .if2 .left))) (c .is-fit2 .ensures ∙ ap (fits _) (at-shape .shape .ensures .0 ∙ ap (λ k. shapeOf k 0) (at-cell .cell .ensures .0)))
+    rw (ne-eqb _ _ (at-if1 .if1 .left), le-leb (entry .args .r) (entry .args .n) (omega (arith, at-if2 .if2 .left))) (c .is-fit2 .ensures ∙ ap (fits _) (ap (λ (x : Shape). x .class) (at-shape-of .shape-of .ensures) ∙ ap (λ k. shapeOf k 0) (at-cell .cell .ensures .0)))
 
 pub is-ref-ok-spec : {M : Type 1} → statement M
 is-ref-ok-spec =
@@ -54,6 +55,6 @@ is-ref-ok-spec =
     sub-m
     returns-2
     cell-requires
-    shape-requires
+    shape-of-requires
     is-fit-requires-2
     returns-3)
