@@ -1,11 +1,1 @@
 pub mod Gates
-pub mod Flags
-pub mod OneAnswer
-pub mod Reading
-pub mod Grammar
-pub mod Left
-pub mod Budgets
-pub mod Exactly
-pub mod Alone
-pub mod AloneBudgets
-pub mod Told

@@ -98,6 +98,7 @@ pub extern "C" fn farthingmoss_write(
     text: &mut [u8],
     report: &mut [u64; 5],
 )
+    ensures { λ _. ⌜ now (table .exit) ≡ now (table .entry) ⌝ }
     ensures { λ _. ⌜ now (text .exit) ≡ textAlone flags depth (now (symbol .entry)) (now (table .entry)) (now (text .entry)) ⌝ }
     ensures { λ _. ⌜ now (report .exit) ≡ reported (writtenAlone flags depth (now (symbol .entry)) (now (table .entry)) (length (now (text .entry)))) (now (report .entry)) ⌝ }
 {
@@ -108,6 +109,7 @@ pub extern "C" fn farthingmoss_write(
 // Where a plain name starts in the symbol, and how long it is, stand in the last two places.
 #[no_mangle]
 pub extern "C" fn farthingmoss_name(symbol: &[u8], table: &[u32], n: u64, report: &mut [u64; 5])
+    ensures { λ _. ⌜ now (table .exit) ≡ now (table .entry) ⌝ }
     ensures { λ _. ⌜ now (report .exit) ≡ nameReport (now (symbol .entry)) (now (table .entry)) n (now (report .entry)) ⌝ }
 {
     let a = name_question(symbol, table, n);

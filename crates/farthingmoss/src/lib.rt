@@ -207,6 +207,7 @@ fn write_root(symbol: &[u8], flags: u32, depth: u32, table: &[u32], text: &mut [
 // Writes the text of a table that a reading left.
 pub fn write_table(symbol: &[u8], flags: u32, depth: u32, table: &[u32], text: &mut [u8]) -> Answer
     ensures { λ r. ⌜ r ≡ writtenAlone flags depth (now (symbol .entry)) (now (table .entry)) (length (now (text .entry))) ⌝ }
+    ensures { λ _. ⌜ now (table .exit) ≡ now (table .entry) ⌝ }
     ensures { λ _. ⌜ now (text .exit) ≡ textAlone flags depth (now (symbol .entry)) (now (table .entry)) (now (text .entry)) ⌝ }
 {
     let g = call_gate(flags, depth, symbol);
@@ -235,6 +236,7 @@ fn is_name(table: &[u32], len: usize, n: u64) -> bool
 // Whether node n is a plain name: the number and the offset of the answer.
 pub fn name_question(symbol: &[u8], table: &[u32], n: u64) -> Answer
     ensures { λ r. ⌜ r ≡ nameAnswer (now (symbol .entry)) (now (table .entry)) n ⌝ }
+    ensures { λ _. ⌜ now (table .exit) ≡ now (table .entry) ⌝ }
 {
     let g = symbol_gate(symbol);
     match g {
@@ -258,6 +260,7 @@ pub fn name_question(symbol: &[u8], table: &[u32], n: u64) -> Answer
 // That part of the symbol which is node n's name; its empty beginning where the question is refused.
 pub fn name_part<'a>(symbol: &'a [u8], table: &[u32], n: u64) -> &'a [u8]
     ensures { λ r. ⌜ now r ≡ nameOf (now (symbol .entry)) (now (table .entry)) n ⌝ }
+    ensures { λ _. ⌜ now (table .exit) ≡ now (table .entry) ⌝ }
 {
     let g = symbol_gate(symbol);
     match g {

@@ -14,7 +14,7 @@ use borrow.Author.Tests.{leb-true, leb-false, le-leb}
 use lib.Dec.{leb}
 use Rattle.scan.specs.Bytes.{pick}
 use Rattle.grammar.specs.Program.{Program, ret, fail, look, when, skip, recall, keep, store, part, sub, node, Reply, found, refused, Out, out, onward, andThen, Part, Same, run}
-use Rattle.grammar.specs.Counts.{Node, Limit, depth, room, Demand, Log, opened, shutNodes, readNodes, shutAsking, asking, readAsking, asks, budget, name, settled, bare, settle, same-limit, most}
+use Rattle.grammar.specs.Counts.{Node, Limit, depth, room, Demand, Log, opened, shutNodes, readNodes, shutAsking, asking, readAsking, asks, budget, name, settled, bare, settle, fits, same-limit, most}
 use Rattle.grammar.specs.declared.State.{State}
 use Rattle.grammar.specs.declared.Refusal.{Refusal}
 use Rattle.grammar.specs.declared.Refusal.the-variants.{Syntax, Deep, Full}
@@ -84,42 +84,37 @@ stops-then false c x y x′ y′ f e k r = r
 
 -- within a depth and a number of nodes
 module _ (deepest nodes : ℕ) where
-  -- no demand of the list passes its limit
-  abbrev pub fits : List Demand → Bool
-  fits [] = true
-  fits (d ∷ ds) = pick (leb (d .count) (budget deepest nodes (d .limit))) (fits ds) false
-
-  fits-append : (ds es : List Demand) → fits ds ≡ true → fits (ds ++ es) ≡ fits es
+  fits-append : (ds es : List Demand) → fits deepest nodes ds ≡ true → fits deepest nodes (ds ++ es) ≡ fits deepest nodes es
   fits-append [] es h = refl
-  fits-append (d ∷ ds) es h = holds-then (leb (d .count) (budget deepest nodes (d .limit))) (fits ds) _ _ _ h (fits-append ds es)
+  fits-append (d ∷ ds) es h = holds-then (leb (d .count) (budget deepest nodes (d .limit))) (fits deepest nodes ds) _ _ _ h (fits-append ds es)
 
   -- demands that fit settle nothing; one that doesn't settles all, whatever follows
-  pub settled-append : {A : Type 0} (ds es : List Demand) (o : Out A (List Node)) → fits ds ≡ true → settled deepest nodes (ds ++ es) o ≡ settled deepest nodes es o
+  pub settled-append : {A : Type 0} (ds es : List Demand) (o : Out A (List Node)) → fits deepest nodes ds ≡ true → settled deepest nodes (ds ++ es) o ≡ settled deepest nodes es o
   settled-append [] es o h = refl
-  settled-append (d ∷ ds) es o h = holds-then (leb (d .count) (budget deepest nodes (d .limit))) (fits ds) _ _ _ h (settled-append ds es o)
+  settled-append (d ∷ ds) es o h = holds-then (leb (d .count) (budget deepest nodes (d .limit))) (fits deepest nodes ds) _ _ _ h (settled-append ds es o)
 
-  pub settled-fits : {A : Type 0} (ds : List Demand) (o : Out A (List Node)) → fits ds ≡ true → settled deepest nodes ds o ≡ o
+  pub settled-fits : {A : Type 0} (ds : List Demand) (o : Out A (List Node)) → fits deepest nodes ds ≡ true → settled deepest nodes ds o ≡ o
   settled-fits [] o h = refl
-  settled-fits (d ∷ ds) o h = holds-then (leb (d .count) (budget deepest nodes (d .limit))) (fits ds) _ _ _ h (settled-fits ds o)
+  settled-fits (d ∷ ds) o h = holds-then (leb (d .count) (budget deepest nodes (d .limit))) (fits deepest nodes ds) _ _ _ h (settled-fits ds o)
 
-  settled-over : {A : Type 0} (ds es : List Demand) (o o′ : Out A (List Node)) → fits ds ≡ false → settled deepest nodes ds o ≡ settled deepest nodes (ds ++ es) o′
+  settled-over : {A : Type 0} (ds es : List Demand) (o o′ : Out A (List Node)) → fits deepest nodes ds ≡ false → settled deepest nodes ds o ≡ settled deepest nodes (ds ++ es) o′
   settled-over [] es o o′ h = true-false h
-  settled-over (d ∷ ds) es o o′ h = fails-then (leb (d .count) (budget deepest nodes (d .limit))) (fits ds) _ _ _ h (settled-over ds es o o′)
+  settled-over (d ∷ ds) es o o′ h = fails-then (leb (d .count) (budget deepest nodes (d .limit))) (fits deepest nodes ds) _ _ _ h (settled-over ds es o o′)
 
-  settled-stops : {A B : Type 0} (ds : List Demand) (o : Out A (List Node)) (o′ : Out B (List Node)) (f : A → State → List Node → Out B (List Node)) → fits ds ≡ false → andThen (settled deepest nodes ds o) f ≡ settled deepest nodes ds o′
+  settled-stops : {A B : Type 0} (ds : List Demand) (o : Out A (List Node)) (o′ : Out B (List Node)) (f : A → State → List Node → Out B (List Node)) → fits deepest nodes ds ≡ false → andThen (settled deepest nodes ds o) f ≡ settled deepest nodes ds o′
   settled-stops [] o o′ f h = true-false h
-  settled-stops (d ∷ ds) o o′ f h = stops-then (leb (d .count) (budget deepest nodes (d .limit))) (fits ds) _ _ _ _ f h (settled-stops ds o o′ f) refl
+  settled-stops (d ∷ ds) o o′ f h = stops-then (leb (d .count) (budget deepest nodes (d .limit))) (fits deepest nodes ds) _ _ _ _ f h (settled-stops ds o o′ f) refl
 
   -- one reading after another
   after-fits :
-      {A B : Type 0} (r : Reply A) (y : Out A Log) (f : A → State → List Node → Out B (List Node)) (f′ : A → State → Log → Out B Log) → fits (y .cells .asked) ≡ true →
-      ((a : A) (st : State) (l : Log) → fits (l .asked) ≡ true → f a st (l .nodes) ≡ settle deepest nodes (f′ a st l)) →
+      {A B : Type 0} (r : Reply A) (y : Out A Log) (f : A → State → List Node → Out B (List Node)) (f′ : A → State → Log → Out B Log) → fits deepest nodes (y .cells .asked) ≡ true →
+      ((a : A) (st : State) (l : Log) → fits deepest nodes (l .asked) ≡ true → f a st (l .nodes) ≡ settle deepest nodes (f′ a st l)) →
       onward r (y .state) (y .cells .nodes) f ≡ settle deepest nodes (onward r (y .state) (y .cells) f′)
   after-fits (found a) y f f′ h k = k a (y .state) (y .cells) h
   after-fits (refused w) y f f′ h k = sym (settled-fits (y .cells .asked) _ h)
 
   after-over :
-      {A B : Type 0} (r : Reply A) (y : Out A Log) (o : Out B (List Node)) (f′ : A → State → Log → Out B Log) → fits (y .cells .asked) ≡ false → ((a : A) (st : State) (l : Log) → Grows l (f′ a st l)) →
+      {A B : Type 0} (r : Reply A) (y : Out A Log) (o : Out B (List Node)) (f′ : A → State → Log → Out B Log) → fits deepest nodes (y .cells .asked) ≡ false → ((a : A) (st : State) (l : Log) → Grows l (f′ a st l)) →
       settled deepest nodes (y .cells .asked) o ≡ settle deepest nodes (onward r (y .state) (y .cells) f′)
   after-over (found a) y o f′ h g =
       let r = g a (y .state) (y .cells) in
@@ -129,11 +124,11 @@ module _ (deepest nodes : ℕ) where
 
   then-settles :
       {A B : Type 0} (y : Out A Log) (f : A → State → List Node → Out B (List Node)) (f′ : A → State → Log → Out B Log) → ((a : A) (st : State) (l : Log) → Grows l (f′ a st l)) →
-      ((a : A) (st : State) (l : Log) → fits (l .asked) ≡ true → f a st (l .nodes) ≡ settle deepest nodes (f′ a st l)) →
+      ((a : A) (st : State) (l : Log) → fits deepest nodes (l .asked) ≡ true → f a st (l .nodes) ≡ settle deepest nodes (f′ a st l)) →
       andThen (settle deepest nodes y) f ≡ settle deepest nodes (andThen y f′)
-  then-settles {A} {B} y f f′ g k = go (fits (y .cells .asked)) refl
+  then-settles {A} {B} y f f′ g k = go (fits deepest nodes (y .cells .asked)) refl
     where
-      go : (b : Bool) → fits (y .cells .asked) ≡ b → andThen (settle deepest nodes y) f ≡ settle deepest nodes (andThen y f′)
+      go : (b : Bool) → fits deepest nodes (y .cells .asked) ≡ b → andThen (settle deepest nodes y) f ≡ settle deepest nodes (andThen y f′)
       go true h = ap (λ (o : Out A (List Node)). andThen o f) (settled-fits (y .cells .asked) _ h) ∙ after-fits (y .reply) y f f′ h k
       go false h = let o : Out B (List Node) = out (refused Deep) (y .state) [] in settled-stops (y .cells .asked) _ o f h ∙ after-over (y .reply) y o f′ h g
 
@@ -142,18 +137,18 @@ module _ (deepest nodes : ℕ) where
   pick-settles false x x′ y y′ p q = q
 
   shuts-settle :
-      (kd : ℕ) (numbers refs : List ℕ) (st : State) (l : Log) → fits (l .asked) ≡ true →
+      (kd : ℕ) (numbers refs : List ℕ) (st : State) (l : Log) → fits deepest nodes (l .asked) ≡ true →
       shutNodes deepest nodes kd numbers refs st (l .nodes) ≡ settle deepest nodes (shutAsking kd numbers refs st l)
   unfolding shutNodes shutAsking
   shuts-settle kd numbers refs st l h = sym (settled-append (l .asked) _ _ h)
 
   module _ {Tag : Type 0} {Ans : Tag → Type 0} (s : List ℕ) (same : Same (List Node)) (rec : Part Tag Ans (List Node)) (rec′ : Part Tag Ans Log)
       (grow : (tag : Tag) (st : State) (l : Log) → Grows l (rec′ tag st l))
-      (reads : (tag : Tag) (st : State) (l : Log) → fits (l .asked) ≡ true → rec tag st (l .nodes) ≡ settle deepest nodes (rec′ tag st l)) where
+      (reads : (tag : Tag) (st : State) (l : Log) → fits deepest nodes (l .asked) ≡ true → rec tag st (l .nodes) ≡ settle deepest nodes (rec′ tag st l)) where
     abbrev logged : Same Log
     logged used l = same used (l .nodes)
 
-    run-settles : {A : Type 0} (p : Program Tag Ans A) (st : State) (l : Log) → fits (l .asked) ≡ true → run s same (shutNodes deepest nodes) rec p st (l .nodes) ≡ settle deepest nodes (run s logged shutAsking rec′ p st l)
+    run-settles : {A : Type 0} (p : Program Tag Ans A) (st : State) (l : Log) → fits deepest nodes (l .asked) ≡ true → run s same (shutNodes deepest nodes) rec p st (l .nodes) ≡ settle deepest nodes (run s logged shutAsking rec′ p st l)
     unfolding run
     run-settles (ret a) st l h = sym (settled-fits (l .asked) _ h)
     run-settles fail st l h = sym (settled-fits (l .asked) _ h)
@@ -168,10 +163,10 @@ module _ (deepest nodes : ℕ) where
     run-settles (node kd numbers refs k) st l h = rw (shuts-settle kd numbers refs st l h) (then-settles (shutAsking kd numbers refs st l) _ _ (λ a st₁ l₁. run-grows s logged rec′ grow (k a) st₁ l₁) (λ a st₁ l₁. run-settles (k a) st₁ l₁))
 
   -- one demand more, after demands that fit
-  one-over : {A : Type 0} (ds : List Demand) (d : Demand) (o : Out A (List Node)) → fits ds ≡ true → leb (d .count) (budget deepest nodes (d .limit)) ≡ false → settled deepest nodes (ds ++ (d ∷ [])) o ≡ out (refused (name (d .limit))) (d .state) (d .nodes)
+  one-over : {A : Type 0} (ds : List Demand) (d : Demand) (o : Out A (List Node)) → fits deepest nodes ds ≡ true → leb (d .count) (budget deepest nodes (d .limit)) ≡ false → settled deepest nodes (ds ++ (d ∷ [])) o ≡ out (refused (name (d .limit))) (d .state) (d .nodes)
   one-over ds d o h e = settled-append ds (d ∷ []) o h ∙ rw e
 
-  one-fits : (ds : List Demand) (d : Demand) (b : Bool) → fits ds ≡ true → leb (d .count) (budget deepest nodes (d .limit)) ≡ b → fits (ds ++ (d ∷ [])) ≡ pick b true false
+  one-fits : (ds : List Demand) (d : Demand) (b : Bool) → fits deepest nodes ds ≡ true → leb (d .count) (budget deepest nodes (d .limit)) ≡ b → fits deepest nodes (ds ++ (d ∷ [])) ≡ pick b true false
   one-fits ds d b h e = fits-append ds (d ∷ []) h ∙ rw e
 
 -- parts: where d more may open within the limit, d′ more may open within 200

@@ -12,34 +12,26 @@ use borrow.Author.Tests.{leb-false, lt-leb}
 use lib.Dec.{leb}
 use Rattle.scan.specs.Bytes.{pick}
 use Rattle.grammar.specs.Program.{Program, ret, fail, look, when, skip, recall, keep, store, part, sub, node, Reply, found, refused, Out, out, onward, Part, Same, run}
-use Rattle.grammar.specs.Counts.{Node, Demand, Log, budget, name, settled, opened, asking, shutAsking, readAsking, asks}
+use Rattle.grammar.specs.Counts.{Node, Demand, Log, budget, name, settled, fits, First, opened, asking, shutAsking, readAsking, asks}
 use Rattle.grammar.specs.declared.State.{State}
 use Rattle.grammar.specs.declared.Refusal.the-variants.{Deep}
-use Rattle.grammar.proofs.Demands.{true-false, fits, settled-append, passed}
+use Rattle.grammar.proofs.Demands.{true-false, settled-append, passed}
 
 module _ (deepest most : ℕ) where
-  -- demand d is the first of a list to pass its limit
-  pub record First (ds : List Demand) (d : Demand) : Type 0 where
-    pub before : List Demand
-    pub after : List Demand
-    pub is : ds ≡ before ++ (d ∷ after)
-    pub hold : fits deepest most before ≡ true
-    pub passes : budget deepest most (d .limit) < d .count
-
-  pub settled-first : {A : Type 0} {ds : List Demand} {d : Demand} (o : Out A (List Node)) → First ds d → settled deepest most ds o ≡ out (refused (name (d .limit))) (d .state) (d .nodes)
+  pub settled-first : {A : Type 0} {ds : List Demand} {d : Demand} (o : Out A (List Node)) → First deepest most ds d → settled deepest most ds o ≡ out (refused (name (d .limit))) (d .state) (d .nodes)
   settled-first {A} {ds} {d} o w =
       ap (λ (x : List Demand). settled deepest most x o) (w .is) ∙ settled-append deepest most (w .before) (d ∷ w .after) o (w .hold)
       ∙ rw (lt-leb (d .count) (budget deepest most (d .limit)) (w .passes))
 
   -- one more demand that holds stands before
-  later : {ds : List Demand} (d : Demand) → leb (d .count) (budget deepest most (d .limit)) ≡ true → (e : Demand) × First ds e → (e : Demand) × First (d ∷ ds) e
+  later : {ds : List Demand} (d : Demand) → leb (d .count) (budget deepest most (d .limit)) ≡ true → (e : Demand) × First deepest most ds e → (e : Demand) × First deepest most (d ∷ ds) e
   later d h (e, w) = (e, record { before = d ∷ w .before; after = w .after; is = ap (λ (x : List Demand). d ∷ x) (w .is); hold = rw h (w .hold); passes = w .passes })
 
-  first-step : {ds : List Demand} (d : Demand) (b : Bool) → leb (d .count) (budget deepest most (d .limit)) ≡ b → pick b (fits deepest most ds) false ≡ false → (fits deepest most ds ≡ false → (e : Demand) × First ds e) → (e : Demand) × First (d ∷ ds) e
+  first-step : {ds : List Demand} (d : Demand) (b : Bool) → leb (d .count) (budget deepest most (d .limit)) ≡ b → pick b (fits deepest most ds) false ≡ false → (fits deepest most ds ≡ false → (e : Demand) × First deepest most ds e) → (e : Demand) × First deepest most (d ∷ ds) e
   first-step {ds} d true h e k = later d h (k e)
   first-step {ds} d false h e k = (d, record { before = []; after = ds; is = refl; hold = refl; passes = leb-false _ _ h })
 
-  pub first-over : (ds : List Demand) → fits deepest most ds ≡ false → (d : Demand) × First ds d
+  pub first-over : (ds : List Demand) → fits deepest most ds ≡ false → (d : Demand) × First deepest most ds d
   first-over [] e = true-false e
   first-over (d ∷ ds) e = first-step d (leb (d .count) (budget deepest most (d .limit))) refl e (first-over ds)
 

@@ -1,6 +1,7 @@
 -- The written grammar's own counts: what a reading asks for when nothing limits it, in order. Within budgets, the first demand that passes its limit refuses.
 -- Assumes nothing: these are definitions.
-use Prim.Native.Nat.{ℕ, zero, suc, _+_, _-_, max}
+use Prim.Native.Nat.{ℕ, zero, suc, _+_, _-_, _<_, max}
+use mathlib.Core.Path.{_≡_}
 use mathlib.Core.List.{List, [], _∷_, _++_}
 use mathlib.Core.Bool.{Bool, true, false}
 use lib.Dec.{leb}
@@ -118,6 +119,18 @@ bare o = out (o .reply) (o .state) (o .cells .nodes)
 
 abbrev pub settle : {A : Type 0} → ℕ → ℕ → Out A Log → Out A (List Node)
 settle deepest most o = settled deepest most (o .cells .asked) (bare o)
+
+-- no demand of the list passes its limit; and a demand that is the first of a list to pass
+abbrev pub fits : ℕ → ℕ → List Demand → Bool
+fits deepest most [] = true
+fits deepest most (d ∷ ds) = pick (leb (d .count) (budget deepest most (d .limit))) (fits deepest most ds) false
+
+pub record First (deepest most : ℕ) (ds : List Demand) (d : Demand) : Type 0 where
+  pub before : List Demand
+  pub after : List Demand
+  pub is : ds ≡ before ++ (d ∷ after)
+  pub hold : fits deepest most before ≡ true
+  pub passes : budget deepest most (d .limit) < d .count
 
 -- the largest count asked of a limit
 abbrev pub same-limit : Limit → Limit → Bool

@@ -1,6 +1,6 @@
 -- `farthingmoss::name_part` meets its contract.
 -- Assumes nothing.
-use mathlib.Core.Path.{sym, _∙_}
+use mathlib.Core.Path.{refl, sym, _∙_}
 use Rattle.farthingmoss.specs.Call.{nameOf}
 use borrow.Author.Needs.{needs}
 use Rattle.farthingmoss.proofs.name_part.Statement.{statement}
@@ -33,7 +33,7 @@ returns c =
     let at-is-name = at-if1 .before in
     let at-enum-told = at-is-name .before in
     let at-symbol-gate = at-enum-told .before .before in
-    rw ((sym (at-symbol-gate .symbol-gate .ensures)) ∙ at-enum-told .enum-told .given .1, (sym (at-is-name .is-name .ensures)) ∙ at-if1 .if1 .taken, sym (at-cell .cell .ensures .0), sym (at-cell2 .cell2 .ensures .0)) (c .part-of .ensures)
+    rw ((sym (at-symbol-gate .symbol-gate .ensures)) ∙ at-enum-told .enum-told .given .1, (sym (at-is-name .is-name .ensures)) ∙ at-if1 .if1 .taken, sym (at-cell .cell .ensures .0), sym (at-cell2 .cell2 .ensures .0)) (c .part-of .ensures, refl)
 
 slice-aggregate-result : tie.Need-slice-aggregate-result
 slice-aggregate-result c = search needs
@@ -63,19 +63,19 @@ returns-2 c =
     let at-is-name = at-if1 .before in
     let at-enum-told = at-is-name .before in
     let at-symbol-gate = at-enum-told .before .before in
-    rw ((sym (at-symbol-gate .symbol-gate .ensures)) ∙ at-enum-told .enum-told .given .1, (sym (at-is-name .is-name .ensures)) ∙ at-if1 .if1 .left)
+    rw ((sym (at-symbol-gate .symbol-gate .ensures)) ∙ at-enum-told .enum-told .given .1, (sym (at-is-name .is-name .ensures)) ∙ at-if1 .if1 .left) (refl, refl)
 
 returns-3 : tie.Need-returns-3
 unfolding nameOf
-returns-3 c = rw ((sym (c .before .before .before .symbol-gate .ensures)) ∙ c .before .enum-told2 .given .1)
+returns-3 c = rw ((sym (c .before .before .before .symbol-gate .ensures)) ∙ c .before .enum-told2 .given .1) (refl, refl)
 
 returns-4 : tie.Need-returns-4
 unfolding nameOf
-returns-4 c = rw ((sym (c .before .before .before .symbol-gate .ensures)) ∙ c .before .enum-told3 .given .1)
+returns-4 c = rw ((sym (c .before .before .before .symbol-gate .ensures)) ∙ c .before .enum-told3 .given .1) (refl, refl)
 
 returns-5 : tie.Need-returns-5
 unfolding nameOf
-returns-5 c = rw ((sym (c .before .before .before .symbol-gate .ensures)) ∙ c .before .enum-told4 .given .1)
+returns-5 c = rw ((sym (c .before .before .before .symbol-gate .ensures)) ∙ c .before .enum-told4 .given .1) (refl, refl)
 
 pub name-part-spec : {M : Type 1} → statement M
 name-part-spec =

@@ -1,6 +1,6 @@
 -- `farthingmoss::name_question` meets its contract.
 -- Assumes nothing.
-use mathlib.Core.Path.{sym, _∙_}
+use mathlib.Core.Path.{refl, sym, _∙_}
 use Rattle.farthingmoss.specs.Call.{nameAnswer}
 use borrow.Author.Needs.{needs}
 use Rattle.farthingmoss.proofs.name_question.Statement.{statement}
@@ -21,7 +21,7 @@ returns c =
     let at-is-name = c .before in
     let at-enum-told = at-is-name .before in
     let at-symbol-gate = at-enum-told .before .before in
-    rw ((sym (at-symbol-gate .symbol-gate .ensures)) ∙ at-enum-told .enum-told .given .1, (sym (at-is-name .is-name .ensures)) ∙ c .if1 .taken)
+    rw ((sym (at-symbol-gate .symbol-gate .ensures)) ∙ at-enum-told .enum-told .given .1, (sym (at-is-name .is-name .ensures)) ∙ c .if1 .taken) (refl, refl)
 
 enum-told-2 : tie.Need-enum-told-2
 enum-told-2 c = search needs
@@ -38,19 +38,19 @@ returns-2 c =
     let at-is-name = c .before in
     let at-enum-told = at-is-name .before in
     let at-symbol-gate = at-enum-told .before .before in
-    rw ((sym (at-symbol-gate .symbol-gate .ensures)) ∙ at-enum-told .enum-told .given .1, (sym (at-is-name .is-name .ensures)) ∙ c .if1 .left)
+    rw ((sym (at-symbol-gate .symbol-gate .ensures)) ∙ at-enum-told .enum-told .given .1, (sym (at-is-name .is-name .ensures)) ∙ c .if1 .left) (refl, refl)
 
 returns-3 : tie.Need-returns-3
 unfolding nameAnswer
-returns-3 c = rw ((sym (c .before .before .symbol-gate .ensures)) ∙ c .enum-told2 .given .1)
+returns-3 c = rw ((sym (c .before .before .symbol-gate .ensures)) ∙ c .enum-told2 .given .1) (refl, refl)
 
 returns-4 : tie.Need-returns-4
 unfolding nameAnswer
-returns-4 c = rw ((sym (c .before .before .symbol-gate .ensures)) ∙ c .enum-told3 .given .1)
+returns-4 c = rw ((sym (c .before .before .symbol-gate .ensures)) ∙ c .enum-told3 .given .1) (refl, refl)
 
 returns-5 : tie.Need-returns-5
 unfolding nameAnswer
-returns-5 c = rw ((sym (c .before .before .before .symbol-gate .ensures)) ∙ c .before .g .given .1)
+returns-5 c = rw ((sym (c .before .before .before .symbol-gate .ensures)) ∙ c .before .g .given .1) (refl, refl)
 
 pub name-question-spec : {M : Type 1} → statement M
 name-question-spec =

@@ -33,19 +33,19 @@ returns c =
     let at-write-root = c .before .before in
     let at-enum-told = at-write-root .before .before in
     let at-call-gate = at-enum-told .before .before in
-    rw ((sym (at-call-gate .call-gate .ensures)) ∙ at-enum-told .enum-told .given .1) (at-write-root .write-root .ensures)
+    rw ((sym (at-call-gate .call-gate .ensures)) ∙ at-enum-told .enum-told .given .1) (at-write-root .write-root .ensures .0, (refl, at-write-root .write-root .ensures .1))
 
 returns-2 : tie.Need-returns-2
 unfolding writtenAlone textAlone
-returns-2 c = rw ((sym (c .before .before .call-gate .ensures)) ∙ c .enum-told2 .given .1) (refl, refl)
+returns-2 c = rw ((sym (c .before .before .call-gate .ensures)) ∙ c .enum-told2 .given .1) (refl, (refl, refl))
 
 returns-3 : tie.Need-returns-3
 unfolding writtenAlone textAlone
-returns-3 c = rw ((sym (c .before .before .call-gate .ensures)) ∙ c .enum-told3 .given .1) (refl, refl)
+returns-3 c = rw ((sym (c .before .before .call-gate .ensures)) ∙ c .enum-told3 .given .1) (refl, (refl, refl))
 
 returns-4 : tie.Need-returns-4
 unfolding writtenAlone textAlone
-returns-4 c = rw ((sym (c .before .before .before .call-gate .ensures)) ∙ c .before .g .given .1) (refl, refl)
+returns-4 c = rw ((sym (c .before .before .before .call-gate .ensures)) ∙ c .before .g .given .1) (refl, (refl, refl))
 
 pub write-table-spec : {M : Type 1} → statement M
 write-table-spec =

@@ -1,6 +1,6 @@
 -- `exports::farthingmoss_name` meets its contract.
 -- Assumes nothing.
-use mathlib.Core.Path.{sym, ap, _∙_}
+use mathlib.Core.Path.{refl, sym, ap, _∙_}
 use Rattle.node.specs.Cells.{cellOf}
 use Rattle.farthingmoss.specs.Call.{reported, isAnswered, filled}
 use borrow.Author.Needs.{needs}
@@ -34,7 +34,7 @@ returns c =
     let at-tell = at-is-answered .before in
     let at-name-question = at-tell .before .before in
     let entry = at-name-question .before .before .before in
-    rw ((ap isAnswered (sym (at-name-question .name-question .ensures)) ∙ sym (at-is-answered .is-answered .ensures)) ∙ at-if1 .if1 .taken) (c .fill-report .ensures ∙ rw (at-cell .cell .ensures .0, at-cell2 .cell2 .ensures .0) (ap (λ l. filled l 0 0 0 (cellOf (entry .args .table .now) (entry .args .n) 7) (cellOf (entry .args .table .now) (entry .args .n) 8)) (at-tell .tell .ensures ∙ ap (λ a. reported a (entry .args .report .now)) (at-name-question .name-question .ensures))))
+    (refl, rw ((ap isAnswered (sym (at-name-question .name-question .ensures .0)) ∙ sym (at-is-answered .is-answered .ensures)) ∙ at-if1 .if1 .taken) (c .fill-report .ensures ∙ rw (at-cell .cell .ensures .0, at-cell2 .cell2 .ensures .0) (ap (λ l. filled l 0 0 0 (cellOf (entry .args .table .now) (entry .args .n) 7) (cellOf (entry .args .table .now) (entry .args .n) 8)) (at-tell .tell .ensures ∙ ap (λ a. reported a (entry .args .report .now)) (at-name-question .name-question .ensures .0)))))
 
 returns-2 : tie.Need-returns-2
 returns-2 c =
@@ -42,7 +42,7 @@ returns-2 c =
     let at-tell = at-is-answered .before in
     let at-name-question = at-tell .before .before in
     let entry = at-name-question .before .before .before in
-    rw ((ap isAnswered (sym (at-name-question .name-question .ensures)) ∙ sym (at-is-answered .is-answered .ensures)) ∙ c .if1 .left) (at-tell .tell .ensures ∙ ap (λ a. reported a (entry .args .report .now)) (at-name-question .name-question .ensures))
+    (refl, rw ((ap isAnswered (sym (at-name-question .name-question .ensures .0)) ∙ sym (at-is-answered .is-answered .ensures)) ∙ c .if1 .left) (at-tell .tell .ensures ∙ ap (λ a. reported a (entry .args .report .now)) (at-name-question .name-question .ensures .0)))
 
 pub farthingmoss-name-spec : {M : Type 1} → statement M
 farthingmoss-name-spec =

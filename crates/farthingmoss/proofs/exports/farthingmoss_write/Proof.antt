@@ -1,6 +1,6 @@
 -- `exports::farthingmoss_write` meets its contract.
 -- Assumes nothing.
-use mathlib.Core.Path.{ap, _∙_}
+use mathlib.Core.Path.{refl, ap, _∙_}
 use Rattle.farthingmoss.specs.Call.{reported}
 use borrow.Author.Needs.{needs}
 use Rattle.farthingmoss.proofs.exports.farthingmoss_write.Statement.{statement}
@@ -19,7 +19,7 @@ returns : tie.Need-returns
 returns c =
     let at-write-table = c .before .before .before .before in
     let entry = at-write-table .before .before .before .before .before in
-    (at-write-table .write-table .ensures .1, c .tell .ensures ∙ ap (λ a. reported a (entry .args .report .now)) (at-write-table .write-table .ensures .0))
+    (refl, (at-write-table .write-table .ensures .1 .1, c .tell .ensures ∙ ap (λ a. reported a (entry .args .report .now)) (at-write-table .write-table .ensures .0)))
 
 pub farthingmoss-write-spec : {M : Type 1} → statement M
 farthingmoss-write-spec =

@@ -1,34 +1,23 @@
--- Demand 3: a refusal 4, 5 or 6 comes exactly when, before any other, the grammar's own count passes that limit.
---     blames, blamed    4 and 5, one law over the limit
---     spills, spilled   6
+-- Demand 3: a refusal 4 or 5 comes exactly when, before any other, the grammar's own count passes that limit: one law over the limit.
 -- Assumes nothing.
 use Prim.Native.Nat.{ℕ}
 use mathlib.Core.Bool.{Bool, true, false}
 use mathlib.Core.Path.{_≡_, refl, sym, ap, _∙_}
 use mathlib.Core.List.{List}
 use Rattle.node.specs.Cells.{nodes}
-use Rattle.grammar.specs.Program.{Reply, found, refused, Out}
-use Rattle.grammar.specs.Counts.{Node, Limit, depth, room, Demand, name, bare}
-use Rattle.grammar.proofs.Demands.{fits, passed, settled-fits}
-use Rattle.grammar.proofs.First.{First, settled-first, first-over}
+use Rattle.grammar.specs.Program.{Reply, refused, Out}
+use Rattle.grammar.specs.Counts.{Node, Limit, depth, room, name, bare, fits}
+use Rattle.grammar.proofs.Demands.{passed, settled-fits}
+use Rattle.grammar.proofs.First.{settled-first, first-over}
 use Rattle.reader.specs.Whole.{whole}
 use Rattle.farthingmoss.specs.declared.Gate.the-variants.{Open}
-use Rattle.farthingmoss.specs.declared.Counts.{Counts}
-use Rattle.farthingmoss.specs.declared.Answer.the-variants.{NoRoom}
 use Rattle.farthingmoss.specs.Call.{gate, refusal, demangled}
 use Rattle.farthingmoss.proofs.Gates.{open-low}
-use Rattle.farthingmoss.proofs.Reading.{own, own-low, said, open-answers, isRead, demangled-open, refusal-read}
-use Rattle.farthingmoss.proofs.Grammar as grammar
+use Rattle.promises.specs.Promises.{own, Blamed, Blames}
+use Rattle.promises.proofs.Reading.{own-low, said, open-answers, isRead, demangled-open, refusal-read}
+use Rattle.promises.proofs.Grammar.{said-refused}
 
--- an open gate, and the first of the grammar's own demands that passes its limit is one of limit l, made at this place
-pub record Blamed (l : Limit) (f deepest : ℕ) (s t : List ℕ) (at : ℕ) : Type 0 where
-  pub opens : gate f deepest s ≡ Open
-  pub demand : Demand
-  pub first : First deepest (nodes t) (own s .cells .asked) demand
-  pub of : demand .limit ≡ l
-  pub place : at ≡ demand .state .at
-
--- then the call is refused by that limit's name: 4 for depth, 5 for nodes
+-- where the first demand that passes is one of limit l the call is refused by that limit's name: 4 for depth, 5 for nodes
 pub blames : {l : Limit} {f deepest : ℕ} {s t : List ℕ} {at : ℕ} → Blamed l f deepest s t at → (space : ℕ) → demangled f deepest s t space ≡ refusal (name l) at
 blames {l} {f} {deepest} {s} {t} {at} w space =
     open-answers f deepest s t (w .opens) space
@@ -54,7 +43,7 @@ blamed {l} {at} f deepest s t space e = go (fits deepest (nodes t) (own s .cells
     opens = demangled-open f deepest s t space (ap isRead e ∙ refusal-read (name l) at)
 
     said-so : (whole s deepest t .reply ≡ refused (name l)) × (at ≡ whole s deepest t .state .at)
-    said-so = grammar.said-refused f s space (whole s deepest t .state) (whole s deepest t .cells) (name l) (whole s deepest t .reply) at (sym (open-answers f deepest s t opens space) ∙ e)
+    said-so = said-refused f s space (whole s deepest t .state) (whole s deepest t .cells) (name l) (whole s deepest t .reply) at (sym (open-answers f deepest s t opens space) ∙ e)
 
     go : (b : Bool) → fits deepest (nodes t) (own s .cells .asked) ≡ b → Blamed l f deepest s t at
     go true h = absurd (own-low s deepest (nodes t) (open-low f deepest s opens) h (ap (passed {A = ℕ}) (ap (λ (o : Out ℕ (List Node)). o .reply) (sym (settled-fits deepest (nodes t) (own s .cells .asked) (bare (own s)) h)) ∙ said-so .0) ∙ name-passed l))
@@ -69,9 +58,5 @@ blamed {l} {at} f deepest s t space e = go (fits deepest (nodes t) (own s .cells
           place = said-so .1 ∙ ap (λ (o : Out ℕ (List Node)). o .state .at) z;
         }
 
--- 6: no demand passes, the grammar derives the symbol, and its text is longer than the room
-pub spills : {f deepest : ℕ} {s t : List ℕ} {space : ℕ} → grammar.Spilled f deepest s t space → (c : Counts) × (demangled f deepest s t space ≡ NoRoom c)
-spills {f} {deepest} {s} {t} {space} w = (_, grammar.spills (w .holds) (w .root) space (w .derives) (w .over))
-
-pub spilled : {c : Counts} (f deepest : ℕ) (s t : List ℕ) (space : ℕ) → demangled f deepest s t space ≡ NoRoom c → grammar.Spilled f deepest s t space
-spilled f deepest s t space e = grammar.spilled f deepest s t space e
+pub blames-exactly : Blames
+blames-exactly l f deepest s t space at = (blamed f deepest s t space, (λ w. blames w space))

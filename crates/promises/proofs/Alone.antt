@@ -1,4 +1,4 @@
--- Theorem 4: what the reading call writes is what the writer alone writes on its table. Assumes nothing.
+-- What the reading call writes is what the writer alone writes on its table. Assumes nothing.
 use Prim.Native.Nat.{ℕ, _+_, _-_, _*_, _≤_}
 use mathlib.Core.Bool.{true}
 use mathlib.Core.Path.{_≡_, sym, ap, _∙_}
@@ -14,11 +14,12 @@ use Rattle.grammar.proofs.Formed as formed
 use Rattle.grammar.proofs.Rows.{cell-kind, height-cells}
 use Rattle.text.specs.Emit.{cut}
 use Rattle.writer.specs.Written.{textOf}
 use Rattle.farthingmoss.specs.declared.Counts.{Counts}
 use Rattle.farthingmoss.specs.declared.Answer.the-variants.{Answered}
 use Rattle.farthingmoss.specs.Call.{demangled, tableAfter, textAfter, rooted, rootHeight, rootAnswer, rootText, writtenAlone, textAlone}
-use Rattle.farthingmoss.proofs.Reading.{own, cells-length, within-formed, within-writes}
-use Rattle.farthingmoss.proofs.Grammar.{Accepted, accepted, leaves, written-whole}
+use Rattle.promises.specs.Promises.{own, Accepted, AloneAgrees}
+use Rattle.promises.proofs.Reading.{cells-length, within-formed, within-writes}
+use Rattle.promises.proofs.Grammar.{accepted, leaves, written-whole}
 
 -- the cells of nodes that a reading left are a rooted table
 module _ {s : List ℕ} {n : ℕ} {st : State} {ns : List Node} (w : formed.Whole s n st ns) where
@@ -71,13 +72,16 @@ module _ {c : Counts} (f depth : ℕ) (s t : List ℕ) (room : ℕ) (e : demangl
   front-is = rw (ap (λ (x : Counts). x .nodes) (is .counts)) (leaves (is .holds) (is .root) (is .derives))
 
   -- the writer alone answers the same, at offset 0
-  pub alone-answers : writtenAlone f depth s (take (c .nodes * 12) (tableAfter f depth s t)) room ≡ Answered (record { offset = 0; depth = c .depth; nodes = c .nodes; text = c .text })
+  alone-answers : writtenAlone f depth s (take (c .nodes * 12) (tableAfter f depth s t)) room ≡ Answered (record { offset = 0; depth = c .depth; nodes = c .nodes; text = c .text })
   unfolding writtenAlone
   alone-answers =
       rw (front-is, is .holds .opens, root-answers formed-is f depth (is .holds .deep) room (is .fits))
       (ap (λ (x : Counts). Answered (record { offset = 0; depth = x .depth; nodes = x .nodes; text = x .text })) (sym (is .counts)))
 
   -- and leaves the same text
-  pub alone-writes : (b : List ℕ) → textAlone f depth s (take (c .nodes * 12) (tableAfter f depth s t)) b ≡ textAfter f depth s t b
+  alone-writes : (b : List ℕ) → textAlone f depth s (take (c .nodes * 12) (tableAfter f depth s t)) b ≡ textAfter f depth s t b
   unfolding textAlone
   alone-writes b = rw (front-is, is .holds .opens, root-writes formed-is f depth (is .holds .deep) b) (sym (within-writes (is .holds) b ∙ rw (is .derives)))
+
+pub alone-agrees : AloneAgrees
+alone-agrees f depth s t b c e = (alone-answers f depth s t (length b) e, alone-writes f depth s t (length b) e b)

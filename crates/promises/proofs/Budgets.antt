@@ -1,11 +1,7 @@
 -- Demand 3, over two calls on one symbol with one flag word: depth, nodes and room decide whether a call is answered, and no word of what it says.
---     more-answered, more-text, more-nodes, more-refused   more room changes no word
---     suffice                                              the counts that a call reports suffice
---     too-deep, no-node, no-room                           less is refused by that limit's name
---     cut-begins                                           a text cut for room begins the text of a larger room
 -- Assumes nothing.
 use Prim.Native.Nat.{ℕ, _*_, _≤_, _<_}
-use mathlib.Core.Path.{_≡_, sym, ap, _∙_}
+use mathlib.Core.Path.{_≡_, refl, sym, ap, _∙_}
 use mathlib.Core.List.{List}
 use native.Mathlib.Omega.{arith}
 use lib.ListN.{length, take}
@@ -15,12 +11,13 @@ use Rattle.grammar.specs.Program.{refused}
 use Rattle.grammar.specs.declared.Refusal.{Refusal}
 use Rattle.reader.specs.Whole.{whole}
 use Rattle.text.proofs.Cut.{take-cut-le}
 use Rattle.farthingmoss.specs.declared.Counts.{Counts}
 use Rattle.farthingmoss.specs.declared.Answer.the-variants.{Answered, NoDerivation, TooDeep, NoNode, NoRoom}
 use Rattle.farthingmoss.specs.Call.{refusal, demangled, tableAfter, textAfter}
 use Rattle.farthingmoss.proofs.Gates.{open-low}
-use Rattle.farthingmoss.proofs.Reading.{own, open-again, open-answers, settles-shallow, settles-cramped, Within, within-writes}
-use Rattle.farthingmoss.proofs.Grammar.{ownText, accepts, writes, leaves, spills, refuses, begins, Accepted, accepted, spilled, rejected}
+use Rattle.promises.specs.Promises.{own, ownText, countsIn, Within, Accepted, MoreAnswered, MoreRefused, CutBegins, Suffices, TooShallow, TooFew, TooSmall}
+use Rattle.promises.proofs.Reading.{open-again, open-answers, settles-shallow, settles-cramped, within-writes}
+use Rattle.promises.proofs.Grammar.{accepts, writes, leaves, spills, refuses, begins, accepted, spilled, rejected}
 
 -- another depth and another table that hold the grammar's own counts
 moved : {f depth depth′ : ℕ} {s t : List ℕ} (t′ : List ℕ) → Within f depth s t → depth′ ≤ 200 → own s .state .deep ≤ depth′ → own s .state .used ≤ nodes t′ → Within f depth′ s t′
@@ -55,53 +52,65 @@ module _ {c : Counts} (f depth : ℕ) (s t : List ℕ) (room : ℕ) (e : demangl
 
   module _ (depth′ : ℕ) (t′ : List ℕ) (room′ : ℕ) where
     -- budgets that hold the reported counts give the same answer
-    pub enough : c .depth ≤ depth′ → depth′ ≤ 200 → c .nodes ≤ nodes t′ → c .text ≤ room′ → demangled f depth′ s t′ room′ ≡ Answered c
+    enough : c .depth ≤ depth′ → depth′ ≤ 200 → c .nodes ≤ nodes t′ → c .text ≤ room′ → demangled f depth′ s t′ room′ ≡ Answered c
     enough p low q r = accepts (held depth′ t′ low p q) (is .root) room′ (is .derives) (omega (arith, text-is)) ∙ ap Answered (sym (is .counts))
 
     -- more room changes no word of the answer
-    pub more-answered : depth ≤ depth′ → depth′ ≤ 200 → nodes t ≤ nodes t′ → room ≤ room′ → demangled f depth′ s t′ room′ ≡ Answered c
+    more-answered : depth ≤ depth′ → depth′ ≤ 200 → nodes t ≤ nodes t′ → room ≤ room′ → demangled f depth′ s t′ room′ ≡ Answered c
     more-answered p low q r = enough (omega (arith, depth-is, is .holds .deep)) low (omega (arith, nodes-is, is .holds .used)) (omega (arith, text-is, is .fits))
 
     refused-by : {why : Refusal} → depth′ ≤ 200 → whole s depth′ t′ .reply ≡ refused why → demangled f depth′ s t′ room′ ≡ refusal why (whole s depth′ t′ .state .at)
     refused-by low r = open-answers f depth′ s t′ (open-again f depth depth′ s (is .holds .opens) low) room′ ∙ rw r
 
     -- a depth below the one reported, with nodes enough, is refused by depth
-    pub too-deep : depth′ < c .depth → c .nodes ≤ nodes t′ → (at : ℕ) × (demangled f depth′ s t′ room′ ≡ TooDeep at)
+    too-deep : depth′ < c .depth → c .nodes ≤ nodes t′ → (at : ℕ) × (demangled f depth′ s t′ room′ ≡ TooDeep at)
     too-deep p q =
         let low : depth′ ≤ 200 = omega (arith, depth-low) in
         (whole s depth′ t′ .state .at, refused-by low (settles-shallow s depth′ (nodes t′) low (omega (arith, depth-is)) (omega (arith, nodes-is))))
 
     -- fewer nodes than reported, with depth enough, are refused by nodes
-    pub no-node : c .depth ≤ depth′ → depth′ ≤ 200 → nodes t′ < c .nodes → (at : ℕ) × (demangled f depth′ s t′ room′ ≡ NoNode at)
+    no-node : c .depth ≤ depth′ → depth′ ≤ 200 → nodes t′ < c .nodes → (at : ℕ) × (demangled f depth′ s t′ room′ ≡ NoNode at)
     no-node p low q = (whole s depth′ t′ .state .at, refused-by low (settles-cramped s depth′ (nodes t′) low (omega (arith, depth-is)) (omega (arith, nodes-is))))
 
     -- less room for the text than reported, with the others enough, is refused by room
-    pub no-room : c .depth ≤ depth′ → depth′ ≤ 200 → c .nodes ≤ nodes t′ → room′ < c .text → demangled f depth′ s t′ room′ ≡ NoRoom (record { offset = c .offset; depth = c .depth; nodes = c .nodes; text = room′ })
+    no-room : c .depth ≤ depth′ → depth′ ≤ 200 → c .nodes ≤ nodes t′ → room′ < c .text → demangled f depth′ s t′ room′ ≡ NoRoom (countsIn room′ c)
     no-room p low q r =
         spills (held depth′ t′ low p q) (is .root) room′ (is .derives) (omega (arith, text-is))
-        ∙ ap (λ (x : Counts). NoRoom (record { offset = x .offset; depth = x .depth; nodes = x .nodes; text = room′ })) (sym (is .counts))
-
-  -- the reported counts suffice
-  pub suffice : (t′ : List ℕ) → nodes t′ ≡ c .nodes → demangled f (c .depth) s t′ (c .text) ≡ Answered c
-  suffice t′ q = enough (c .depth) t′ (c .text) (omega arith) depth-low (omega arith) (omega arith)
+        ∙ ap (λ (x : Counts). NoRoom (countsIn room′ x)) (sym (is .counts))
 
   -- more room changes no word of the text
   pub more-text : (depth′ : ℕ) (t′ b b′ : List ℕ) → depth ≤ depth′ → depth′ ≤ 200 → nodes t ≤ nodes t′ → room ≡ length b → room ≤ length b′ → take (c .text) (textAfter f depth′ s t′ b′) ≡ take (c .text) (textAfter f depth s t b)
   more-text depth′ t′ b b′ p low q z r = begun depth′ t′ (held-more depth′ t′ p low q) b′ r ∙ sym (begun depth t (is .holds) b (omega arith))
 
   -- nor of the nodes
-  pub more-nodes : (depth′ : ℕ) (t′ : List ℕ) → depth ≤ depth′ → depth′ ≤ 200 → nodes t ≤ nodes t′ → take (c .nodes * 12) (tableAfter f depth′ s t′) ≡ take (c .nodes * 12) (tableAfter f depth s t)
+  more-nodes : (depth′ : ℕ) (t′ : List ℕ) → depth ≤ depth′ → depth′ ≤ 200 → nodes t ≤ nodes t′ → take (c .nodes * 12) (tableAfter f depth′ s t′) ≡ take (c .nodes * 12) (tableAfter f depth s t)
   more-nodes depth′ t′ p low q = rw nodes-is (leaves (held-more depth′ t′ p low q) (is .root) (is .derives) ∙ sym (leaves (is .holds) (is .root) (is .derives)))
 
--- nor of a refusal for want of a derivation
-pub more-refused : {at : ℕ} (f depth : ℕ) (s t : List ℕ) (room : ℕ) → demangled f depth s t room ≡ NoDerivation at → (depth′ : ℕ) (t′ : List ℕ) (room′ : ℕ) → depth ≤ depth′ → depth′ ≤ 200 → nodes t ≤ nodes t′ → demangled f depth′ s t′ room′ ≡ NoDerivation at
-more-refused f depth s t room e depth′ t′ room′ p low q =
+pub answered-more : MoreAnswered
+answered-more f depth depth′ s t t′ b b′ c e p low q r =
+    (more-answered f depth s t (length b) e depth′ t′ (length b′) p low q r, more-text f depth s t (length b) e depth′ t′ b b′ p low q refl r, more-nodes f depth s t (length b) e depth′ t′ p low q)
+
+pub refused-more : MoreRefused
+refused-more f depth depth′ s t t′ room room′ at e p low q =
     let r = rejected f depth s t room e in
     refuses (moved t′ (r .holds) low (omega (arith, r .holds .deep)) (omega (arith, r .holds .used))) room′ (r .refuses) ∙ ap NoDerivation (sym (r .place))
 
--- a text cut for room begins the text of a larger room
-pub cut-begins : {c : Counts} (f depth : ℕ) (s t b b′ : List ℕ) → demangled f depth s t (length b) ≡ NoRoom c → length b ≤ length b′ → textAfter f depth s t b ≡ take (length b) (textAfter f depth s t b′)
-cut-begins f depth s t b b′ e l =
+-- a text cut for room begins the text of a call with no less
+pub cut-begins : CutBegins
+cut-begins f depth depth′ s t t′ b b′ c e p low q l =
     let r = spilled f depth s t (length b) e in
+    let w = moved t′ (r .holds) low (omega (arith, r .holds .deep)) (omega (arith, r .holds .used)) in
     begins (r .holds) (r .root) b (r .derives) (r .over)
-    ∙ sym (ap (take (length b)) (within-writes (r .holds) b′ ∙ rw (r .derives)) ∙ take-cut-le b′ (ownText f s (r .root)) (length b) l (omega (arith, r .over)))
+    ∙ sym (ap (take (length b)) (within-writes w b′ ∙ rw (r .derives)) ∙ take-cut-le b′ (ownText f s (r .root)) (length b) l (omega (arith, r .over)))
+
+pub counts-suffice : Suffices
+counts-suffice f depth depth′ s t t′ room room′ c e = enough f depth s t room e depth′ t′ room′
+
+pub too-shallow : TooShallow
+too-shallow f depth depth′ s t t′ room room′ c e = too-deep f depth s t room e depth′ t′ room′
+
+pub too-few : TooFew
+too-few f depth depth′ s t t′ room room′ c e = no-node f depth s t room e depth′ t′ room′
+
+pub too-small : TooSmall
+too-small f depth depth′ s t t′ room room′ c e = no-room f depth s t room e depth′ t′ room′

@@ -1,7 +1,6 @@
 -- What a call whose gate is open answers and leaves, over the written grammar's own reading of the symbol.
---     own              that reading, within no budget
 --     open-answers     a call's answer is that of the reading that the budgets settle, by its nodes alone
---     Within           budgets that hold its counts: the call is the reading itself
+--     within-answers   budgets that hold its counts: the call is the reading itself
 --     isRead           which answers come of a reading
 --     within           only such a call answers 0, 3 or 6
 -- Assumes nothing.
@@ -19,24 +18,25 @@ use Rattle.meaning.specs.Tree.{Tree}
 use Rattle.meaning.proofs.Trees.{tree-kept}
 use Rattle.serializer.specs.Serializer.{serialize}
 use Rattle.grammar.specs.Program.{Reply, found, refused, Out, out}
-use Rattle.grammar.specs.Counts.{Node, Log, readNodes, asks, settle, bare}
+use Rattle.grammar.specs.Counts.{Node, readNodes, settle, fits, bare}
 use Rattle.grammar.specs.Table.{cellsOf, sameNodes}
 use Rattle.grammar.specs.Grammar.{Parse, body}
 use Rattle.grammar.specs.declared.State.{State}
 use Rattle.grammar.specs.declared.Refusal.{Refusal}
 use Rattle.grammar.specs.declared.Refusal.the-variants.{Syntax, Deep, Full}
-use Rattle.grammar.proofs.Demands.{settles, suffices, shallow, cramped, stands, passed, fits, fits-low, reports}
+use Rattle.grammar.proofs.Demands.{settles, suffices, shallow, cramped, stands, passed, fits-low, reports}
 use Rattle.grammar.proofs.First.{stopped}
 use Rattle.grammar.proofs.Formed as formed
 use Rattle.reader.specs.Whole.{start, whole, inside, told, cellsLeft}
 use Rattle.text.specs.Emit.{cut}
 use Rattle.writer.specs.Written.{textOf, written}
 use Rattle.farthingmoss.specs.declared.Gate.{Gate}
 use Rattle.farthingmoss.specs.declared.Gate.the-variants.{Open, Call, Symbol, High}
 use Rattle.farthingmoss.specs.declared.Answer.{Answer}
 use Rattle.farthingmoss.specs.declared.Answer.the-variants.{Answered, NoSymbol, NotAscii, NoDerivation, TooDeep, NoNode, NoRoom, BadCall, BadTable}
 use Rattle.farthingmoss.specs.Call.{knownFlags, symbolGate, gate, through, fitted, refusal, answerOf, textLeft, demangled, tableAfter, textAfter}
 use Rattle.farthingmoss.proofs.Gates.{open-low}
+use Rattle.promises.specs.Promises.{own, Within}
 
 -- an open gate: the symbol is short, and the gate is open for every other depth up to 200
 call-held : (b : Bool) (g : Gate) → pick b g Call ≡ Open → (b ≡ true) × (g ≡ Open)
@@ -63,11 +63,7 @@ open-again f depth depth′ s e l = rw (le-leb depth′ 200 l) (gate-inner f dep
 open-inside : (f depth : ℕ) (s : List ℕ) → gate f depth s ≡ Open → inside s depth ≡ true
 open-inside f depth s e = rw (le-leb (length s) 4096 (open-short f depth s e), le-leb depth 200 (open-low f depth s e))
 
--- the grammar's own reading, within no budget
-abbrev pub own : List ℕ → Out ℕ Log
-own s = asks body (sameNodes s) s Parse start
-
--- what budgets make of it
+-- what budgets make of the grammar's own reading
 module _ (s : List ℕ) (depth room : ℕ) (low : depth ≤ 200) where
   settles-own : readNodes body (sameNodes s) s depth room depth Parse start [] ≡ settle depth room (own s)
   settles-own = settles body (sameNodes s) s depth room low Parse start
@@ -155,13 +151,7 @@ module _ (f depth : ℕ) (s t : List ℕ) (opens : gate f depth s ≡ Open) wher
   unfolding textAfter
   open-writes b = rw (opens, open-inside f depth s opens) (left-kept f s _ _ b _ root-low)
 
--- a call that its gate lets through, in budgets that hold the grammar's own counts
-pub record Within (f depth : ℕ) (s t : List ℕ) : Type 0 where
-  pub opens : gate f depth s ≡ Open
-  pub deep : own s .state .deep ≤ depth
-  pub used : own s .state .used ≤ nodes t
-
--- is the reading itself
+-- a call in budgets that hold the grammar's own counts is the reading itself
 module _ {f depth : ℕ} {s t : List ℕ} (w : Within f depth s t) where
   within-whole : whole s depth t ≡ bare (own s)
   within-whole = settles-enough s depth (nodes t) (open-low f depth s (w .opens)) (w .deep) (w .used)

@@ -1,0 +1,360 @@
+-- What the public calls promise: each sentence of the three demands, and of the scope's "Left behind" and "Nothing left to choose", as a statement: a type, with its words
+-- above it. `Promises`, at the end, is all of them, and the function of src/lib.rt is proved only where each has a proof.
+-- `f` is the flag word, `depth` the depth budget, `s` the symbol, `t` the table, `b` the text buffer and `room` its length; a prime marks a second call's.
+-- Assumes nothing: these are definitions.
+use Prim.Native.Nat.{ℕ, _+_, _*_, _/_, _%_, _^_, _≤_, _<_}
+use mathlib.Core.Bool.{Bool, true}
+use mathlib.Core.Path.{_≡_}
+use mathlib.Core.List.{List, [], _∷_, _++_}
+use lib.Dec.{eqb}
+use lib.ListN.{length, take, drop, getD, replicate}
+use Rattle.node.specs.Cells.{nodes}
+use Rattle.grammar.specs.Program.{Out, found, refused, anyOf}
+use Rattle.grammar.specs.Counts.{Node, Limit, Demand, Log, First, name, asks}
+use Rattle.grammar.specs.Table.{cellsOf, sameNodes}
+use Rattle.grammar.specs.Grammar.{Parse, body}
+use Rattle.grammar.specs.declared.Refusal.the-variants.{Syntax}
+use Rattle.reader.specs.Whole.{start}
+use Rattle.writer.specs.Written.{textOf}
+use Rattle.farthingmoss.specs.declared.Gate.the-variants.{Open}
+use Rattle.farthingmoss.specs.declared.Counts.{Counts}
+use Rattle.farthingmoss.specs.declared.Answer.{Answer}
+use Rattle.farthingmoss.specs.declared.Answer.the-variants.{Answered, NoDerivation, TooDeep, NoNode, NoRoom}
+use Rattle.farthingmoss.specs.Call.{reportOf, reported, knownFlags, gate, refusal, demangled, tableAfter, textAfter, rooted, rootHeight, writtenAlone, textAlone, nameAnswer, nameOf}
+
+-- THE WORDS
+
+-- the written grammar's own reading of a symbol, within no budget: its reply, its counts, its nodes and what it asked for, in order
+abbrev pub own : List ℕ → Out ℕ Log
+own s = asks body (sameNodes s) s Parse start
+
+abbrev pub ownNodes : List ℕ → List Node
+ownNodes s = own s .cells .nodes
+
+-- the text of its tree, whose root is node n, and its counts
+abbrev pub ownText : ℕ → List ℕ → ℕ → List ℕ
+ownText f s n = textOf f (cellsOf (ownNodes s)) s (n + 1)
+
+abbrev pub ownCounts : ℕ → List ℕ → ℕ → Counts
+ownCounts f s n = record { offset = own s .state .at; depth = own s .state .deep; nodes = own s .state .used; text = length (ownText f s n) }
+
+-- the counts of a text that did not fit
+abbrev pub countsIn : ℕ → Counts → Counts
+countsIn room c = record { offset = c .offset; depth = c .depth; nodes = c .nodes; text = room }
+
+-- a call that nothing refuses before it reads, in budgets that hold the grammar's own counts
+pub record Within (f depth : ℕ) (s t : List ℕ) : Type 0 where
+  pub opens : gate f depth s ≡ Open
+  pub deep : own s .state .deep ≤ depth
+  pub used : own s .state .used ≤ nodes t
+
+-- the first of the grammar's own demands that passes its limit is one of limit l, made at this place
+pub record Blamed (l : Limit) (f depth : ℕ) (s t : List ℕ) (at : ℕ) : Type 0 where
+  pub opens : gate f depth s ≡ Open
+  pub demand : Demand
+  pub first : First depth (nodes t) (own s .cells .asked) demand
+  pub of : demand .limit ≡ l
+  pub place : at ≡ demand .state .at
+
+-- the grammar derives the symbol, and the text of its tree fits the room, or does not
+pub record Accepted (f depth : ℕ) (s t : List ℕ) (room : ℕ) (c : Counts) : Type 0 where
+  pub holds : Within f depth s t
+  pub root : ℕ
+  pub derives : own s .reply ≡ found root
+  pub fits : length (ownText f s root) ≤ room
+  pub counts : c ≡ ownCounts f s root
+
+pub record Spilled (f depth : ℕ) (s t : List ℕ) (room : ℕ) (c : Counts) : Type 0 where
+  pub holds : Within f depth s t
+  pub root : ℕ
+  pub derives : own s .reply ≡ found root
+  pub over : room < length (ownText f s root)
+  pub counts : c ≡ countsIn room (ownCounts f s root)
+
+-- it has no derivation, and its own reading ends at this place
+pub record Rejected (f depth : ℕ) (s t : List ℕ) (at : ℕ) : Type 0 where
+  pub holds : Within f depth s t
+  pub refuses : own s .reply ≡ refused Syntax
+  pub place : at ≡ own s .state .at
+
+-- the writer alone: a table whose last node is its root, what that writes, and its counts
+pub record Rooted (f depth : ℕ) (s t : List ℕ) : Type 0 where
+  pub opens : gate f depth s ≡ Open
+  pub root : rooted (length s) t ≡ true
+
+abbrev pub rootWords : ℕ → List ℕ → List ℕ → List ℕ
+rootWords f s t = textOf f t s (nodes t)
+
+abbrev pub rootCounts : ℕ → List ℕ → List ℕ → Counts
+rootCounts f s t = record { offset = 0; depth = rootHeight t; nodes = nodes t; text = length (rootWords f s t) }
+
+-- the number of an answer, and whether it is one of these
+abbrev pub number : Answer → ℕ
+number a = getD (reportOf a) 0 0
+
+abbrev pub says : List ℕ → Answer → Bool
+says numbers a = anyOf (eqb (number a)) numbers
+
+-- zeros for k nodes, and the cells behind them as they were
+abbrev pub zeroed : ℕ → List ℕ → List ℕ
+zeroed k t = replicate (k * 12) 0 ++ drop (k * 12) t
+
+-- what `demangle`, `write_table` and the two calls of the name question promise of a result and of what is lent at exit
+pub record Demangles (f depth : ℕ) (s t b : List ℕ) (r : Answer) (t′ b′ : List ℕ) : Type 0 where
+  pub answer : r ≡ demangled f depth s t (length b)
+  pub table : t′ ≡ tableAfter f depth s t
+  pub text : b′ ≡ textAfter f depth s t b
+
+pub record Writes (f depth : ℕ) (s t b : List ℕ) (r : Answer) (t′ b′ : List ℕ) : Type 0 where
+  pub answer : r ≡ writtenAlone f depth s t (length b)
+  pub table : t′ ≡ t
+  pub text : b′ ≡ textAlone f depth s t b
+
+pub record Names (s t : List ℕ) (n : ℕ) (r : Answer) (part t′ : List ℕ) : Type 0 where
+  pub answer : r ≡ nameAnswer s t n
+  pub bytes : part ≡ nameOf s t n
+  pub table : t′ ≡ t
+
+-- DEMAND 1: any bytes, flags and lent buffers
+
+-- Each call gives an answer or a refusal with one of its numbers.
+abbrev pub ReadNumbers : Type 0
+ReadNumbers = (f depth : ℕ) (s t : List ℕ) (room : ℕ) → says (0 ∷ 1 ∷ 2 ∷ 3 ∷ 4 ∷ 5 ∷ 6 ∷ 7 ∷ []) (demangled f depth s t room) ≡ true
+
+abbrev pub WriteNumbers : Type 0
+WriteNumbers = (f depth : ℕ) (s t : List ℕ) (room : ℕ) → says (0 ∷ 1 ∷ 2 ∷ 4 ∷ 6 ∷ 7 ∷ 8 ∷ []) (writtenAlone f depth s t room) ≡ true
+
+abbrev pub NameNumbers : Type 0
+NameNumbers = (s t : List ℕ) (n : ℕ) → says (0 ∷ 1 ∷ 2 ∷ 8 ∷ []) (nameAnswer s t n) ≡ true
+
+-- A report of five places holds the number, the offset and the counts of the answer, whatever stood there.
+abbrev pub Reports : Type 0
+Reports = (a : Answer) (out : List ℕ) → length out ≡ 5 → reported a out ≡ reportOf a
+
+-- Of all 2^32 flag words exactly those within 0x01F01EE6 are known.
+abbrev pub bit : ℕ → ℕ → ℕ
+bit word i = word / 2 ^ i % 2
+
+abbrev pub KnownWords : Type 0
+KnownWords = (f : ℕ) → f < 2 ^ 32 → (knownFlags f ≡ true → (i : ℕ) → bit f i ≡ 1 → bit 32513766 i ≡ 1) × (((i : ℕ) → bit f i ≡ 1 → bit 32513766 i ≡ 1) → knownFlags f ≡ true)
+
+-- NOTHING LEFT TO CHOOSE
+
+-- For every input a call's promise leaves one answer, one table and one text: two that meet it are equal.
+abbrev pub OneRead : Type 0
+OneRead = (f depth : ℕ) (s t b t₁ b₁ t₂ b₂ : List ℕ) (r₁ r₂ : Answer) → Demangles f depth s t b r₁ t₁ b₁ → Demangles f depth s t b r₂ t₂ b₂ → (r₁ ≡ r₂) × (t₁ ≡ t₂) × (b₁ ≡ b₂)
+
+abbrev pub OneWritten : Type 0
+OneWritten = (f depth : ℕ) (s t b t₁ b₁ t₂ b₂ : List ℕ) (r₁ r₂ : Answer) → Writes f depth s t b r₁ t₁ b₁ → Writes f depth s t b r₂ t₂ b₂ → (r₁ ≡ r₂) × (t₁ ≡ t₂) × (b₁ ≡ b₂)
+
+abbrev pub OneNamed : Type 0
+OneNamed = (s t : List ℕ) (n : ℕ) (p₁ t₁ p₂ t₂ : List ℕ) (r₁ r₂ : Answer) → Names s t n r₁ p₁ t₁ → Names s t n r₂ p₂ t₂ → (r₁ ≡ r₂) × (p₁ ≡ p₂) × (t₁ ≡ t₂)
+
+-- LEFT BEHIND
+
+-- Answered: the nodes, the text, all later cells and bytes unchanged. (The nodes are the derivation's, the text is that of its tree.)
+abbrev pub AnsweredLeaves : Type 0
+AnsweredLeaves =
+    (f depth : ℕ) (s t b : List ℕ) (c : Counts) → demangled f depth s t (length b) ≡ Answered c →
+    (n : ℕ) × (own s .reply ≡ found n) × (tableAfter f depth s t ≡ cellsOf (ownNodes s) ++ drop (c .nodes * 12) t) × (textAfter f depth s t b ≡ ownText f s n ++ drop (c .text) b)
+
+-- Refusal 3: the nodes already counted, those of the grammar's own reading, are zero, the rest and the text buffer unchanged.
+abbrev pub SyntaxLeaves : Type 0
+SyntaxLeaves =
+    (f depth : ℕ) (s t b : List ℕ) (at : ℕ) → demangled f depth s t (length b) ≡ NoDerivation at →
+    (tableAfter f depth s t ≡ zeroed (length (ownNodes s)) t) × (textAfter f depth s t b ≡ b)
+
+-- Refusals 4 and 5: zero are those counted before the first demand that passes its limit.
+abbrev pub LimitLeaves : Type 0
+LimitLeaves =
+    (l : Limit) (f depth : ℕ) (s t b : List ℕ) (at : ℕ) (w : Blamed l f depth s t at) → (tableAfter f depth s t ≡ zeroed (length (w .demand .nodes)) t) × (textAfter f depth s t b ≡ b)
+
+-- Refusal 6: the table as answered, the text buffer full with the beginning of the text.
+abbrev pub FullLeaves : Type 0
+FullLeaves =
+    (f depth : ℕ) (s t b : List ℕ) (c : Counts) → demangled f depth s t (length b) ≡ NoRoom c →
+    (n : ℕ) × (own s .reply ≡ found n) × (tableAfter f depth s t ≡ cellsOf (ownNodes s) ++ drop (c .nodes * 12) t) × (textAfter f depth s t b ≡ take (length b) (ownText f s n))
+
+-- Refusals 1, 2 and 7: nothing changed.
+abbrev pub NothingLeft : Type 0
+NothingLeft = (f depth : ℕ) (s t b : List ℕ) → says (1 ∷ 2 ∷ 7 ∷ []) (demangled f depth s t (length b)) ≡ true → (tableAfter f depth s t ≡ t) × (textAfter f depth s t b ≡ b)
+
+-- The writer alone: 7, 1, 2, 8 and 4 change nothing; 0 leaves all bytes behind the text; 6 a full buffer. (`Writes`: the table is never changed. `Names`: nor by the name question.)
+abbrev pub AloneNothingLeft : Type 0
+AloneNothingLeft = (f depth : ℕ) (s t b : List ℕ) → says (7 ∷ 1 ∷ 2 ∷ 8 ∷ 4 ∷ []) (writtenAlone f depth s t (length b)) ≡ true → textAlone f depth s t b ≡ b
+
+abbrev pub AloneAnsweredLeaves : Type 0
+AloneAnsweredLeaves = (f depth : ℕ) (s t b : List ℕ) (c : Counts) → writtenAlone f depth s t (length b) ≡ Answered c → textAlone f depth s t b ≡ rootWords f s t ++ drop (c .text) b
+
+abbrev pub AloneFullLeaves : Type 0
+AloneFullLeaves = (f depth : ℕ) (s t b : List ℕ) (c : Counts) → writtenAlone f depth s t (length b) ≡ NoRoom c → textAlone f depth s t b ≡ take (length b) (rootWords f s t)
+
+-- Reported counts are depth, nodes and text length for 0, for 6 the same with the buffer's length as text length (`Accepts`, `Spills`); else zeros.
+abbrev pub ZeroCounts : Type 0
+ZeroCounts = (a : Answer) → says (1 ∷ 2 ∷ 3 ∷ 4 ∷ 5 ∷ 7 ∷ 8 ∷ []) a ≡ true → drop 2 (reportOf a) ≡ 0 ∷ 0 ∷ 0 ∷ []
+
+-- Old contents of table and text buffer never affect an answer of a call that reads the symbol, nor the text that it writes. (Of the buffer an answer takes the length alone.)
+abbrev pub OldContents : Type 0
+OldContents =
+    (f depth : ℕ) (s t t′ : List ℕ) → nodes t ≡ nodes t′ → ((room : ℕ) → demangled f depth s t room ≡ demangled f depth s t′ room)
+    × ((b b′ : List ℕ) (c : Counts) → length b ≡ length b′ → demangled f depth s t (length b) ≡ Answered c → take (c .text) (textAfter f depth s t b) ≡ take (c .text) (textAfter f depth s t′ b′))
+
+-- DEMAND 2: the written grammar, and the text of its tree
+
+-- A symbol that the grammar derives is answered with its counts, and no other call is answered so.
+abbrev pub Accepts : Type 0
+Accepts =
+    (f depth : ℕ) (s t : List ℕ) (room : ℕ) (c : Counts) →
+    (demangled f depth s t room ≡ Answered c → Accepted f depth s t room c) × (Accepted f depth s t room c → demangled f depth s t room ≡ Answered c)
+
+-- A symbol with no derivation is refused where the grammar's own reading ends, and no other call is refused so.
+abbrev pub Rejects : Type 0
+Rejects =
+    (f depth : ℕ) (s t : List ℕ) (room at : ℕ) →
+    (demangled f depth s t room ≡ NoDerivation at → Rejected f depth s t at) × (Rejected f depth s t at → demangled f depth s t room ≡ NoDerivation at)
+
+-- DEMAND 3: more room never changes a word, and the reported counts suffice exactly
+
+-- An answer is the same with no less depth, nodes and room: the counts, the text and the nodes.
+abbrev pub MoreAnswered : Type 0
+MoreAnswered =
+    (f depth depth′ : ℕ) (s t t′ b b′ : List ℕ) (c : Counts) → demangled f depth s t (length b) ≡ Answered c → depth ≤ depth′ → depth′ ≤ 200 → nodes t ≤ nodes t′ → length b ≤ length b′ →
+    (demangled f depth′ s t′ (length b′) ≡ Answered c) × (take (c .text) (textAfter f depth′ s t′ b′) ≡ take (c .text) (textAfter f depth s t b))
+    × (take (c .nodes * 12) (tableAfter f depth′ s t′) ≡ take (c .nodes * 12) (tableAfter f depth s t))
+
+-- So is a refusal for want of a derivation.
+abbrev pub MoreRefused : Type 0
+MoreRefused =
+    (f depth depth′ : ℕ) (s t t′ : List ℕ) (room room′ at : ℕ) → demangled f depth s t room ≡ NoDerivation at → depth ≤ depth′ → depth′ ≤ 200 → nodes t ≤ nodes t′ →
+    demangled f depth′ s t′ room′ ≡ NoDerivation at
+
+-- A text cut for room begins the text of a second call with no less depth, nodes and room.
+abbrev pub CutBegins : Type 0
+CutBegins =
+    (f depth depth′ : ℕ) (s t t′ b b′ : List ℕ) (c : Counts) → demangled f depth s t (length b) ≡ NoRoom c → depth ≤ depth′ → depth′ ≤ 200 → nodes t ≤ nodes t′ → length b ≤ length b′ →
+    textAfter f depth s t b ≡ take (length b) (textAfter f depth′ s t′ b′)
+
+-- 4 and 5 come exactly when, before any other, the grammar's own count passes that limit; 6 exactly when none does and the text of its tree is longer than the room.
+abbrev pub Blames : Type 0
+Blames =
+    (l : Limit) (f depth : ℕ) (s t : List ℕ) (room at : ℕ) →
+    (demangled f depth s t room ≡ refusal (name l) at → Blamed l f depth s t at) × (Blamed l f depth s t at → demangled f depth s t room ≡ refusal (name l) at)
+
+abbrev pub Spills : Type 0
+Spills =
+    (f depth : ℕ) (s t : List ℕ) (room : ℕ) (c : Counts) →
+    (demangled f depth s t room ≡ NoRoom c → Spilled f depth s t room c) × (Spilled f depth s t room c → demangled f depth s t room ≡ NoRoom c)
+
+-- The reported counts suffice.
+abbrev pub Suffices : Type 0
+Suffices =
+    (f depth depth′ : ℕ) (s t t′ : List ℕ) (room room′ : ℕ) (c : Counts) → demangled f depth s t room ≡ Answered c → c .depth ≤ depth′ → depth′ ≤ 200 → c .nodes ≤ nodes t′ → c .text ≤ room′ →
+    demangled f depth′ s t′ room′ ≡ Answered c
+
+-- One smaller, or smaller still, is refused by that limit's name: depth, nodes, room.
+abbrev pub TooShallow : Type 0
+TooShallow =
+    (f depth depth′ : ℕ) (s t t′ : List ℕ) (room room′ : ℕ) (c : Counts) → demangled f depth s t room ≡ Answered c → depth′ < c .depth → c .nodes ≤ nodes t′ →
+    (at : ℕ) × (demangled f depth′ s t′ room′ ≡ TooDeep at)
+
+abbrev pub TooFew : Type 0
+TooFew =
+    (f depth depth′ : ℕ) (s t t′ : List ℕ) (room room′ : ℕ) (c : Counts) → demangled f depth s t room ≡ Answered c → c .depth ≤ depth′ → depth′ ≤ 200 → nodes t′ < c .nodes →
+    (at : ℕ) × (demangled f depth′ s t′ room′ ≡ NoNode at)
+
+abbrev pub TooSmall : Type 0
+TooSmall =
+    (f depth depth′ : ℕ) (s t t′ : List ℕ) (room room′ : ℕ) (c : Counts) → demangled f depth s t room ≡ Answered c → c .depth ≤ depth′ → depth′ ≤ 200 → c .nodes ≤ nodes t′ → room′ < c .text →
+    demangled f depth′ s t′ room′ ≡ NoRoom (countsIn room′ c)
+
+-- The writer alone owes the same for depth and text room, on one unchanged table: exactly when it answers, refuses 4 and refuses 6;
+abbrev pub AloneAccepts : Type 0
+AloneAccepts =
+    (f depth : ℕ) (s t : List ℕ) (room : ℕ) (c : Counts) →
+    (writtenAlone f depth s t room ≡ Answered c → Rooted f depth s t × (rootHeight t ≤ depth) × (length (rootWords f s t) ≤ room) × (c ≡ rootCounts f s t))
+    × (Rooted f depth s t × (rootHeight t ≤ depth) × (length (rootWords f s t) ≤ room) × (c ≡ rootCounts f s t) → writtenAlone f depth s t room ≡ Answered c)
+
+abbrev pub AloneBlames : Type 0
+AloneBlames =
+    (f depth : ℕ) (s t : List ℕ) (room at : ℕ) →
+    (writtenAlone f depth s t room ≡ TooDeep at → Rooted f depth s t × (depth < rootHeight t) × (at ≡ 0)) × (Rooted f depth s t × (depth < rootHeight t) × (at ≡ 0) → writtenAlone f depth s t room ≡ TooDeep at)
+
+abbrev pub AloneSpills : Type 0
+AloneSpills =
+    (f depth : ℕ) (s t : List ℕ) (room : ℕ) (c : Counts) →
+    (writtenAlone f depth s t room ≡ NoRoom c → Rooted f depth s t × (rootHeight t ≤ depth) × (room < length (rootWords f s t)) × (c ≡ countsIn room (rootCounts f s t)))
+    × (Rooted f depth s t × (rootHeight t ≤ depth) × (room < length (rootWords f s t)) × (c ≡ countsIn room (rootCounts f s t)) → writtenAlone f depth s t room ≡ NoRoom c)
+
+-- more changes no word, and a cut text begins the whole;
+abbrev pub AloneMoreAnswered : Type 0
+AloneMoreAnswered =
+    (f depth depth′ : ℕ) (s t b b′ : List ℕ) (c : Counts) → writtenAlone f depth s t (length b) ≡ Answered c → depth ≤ depth′ → depth′ ≤ 200 → length b ≤ length b′ →
+    (writtenAlone f depth′ s t (length b′) ≡ Answered c) × (take (c .text) (textAlone f depth′ s t b′) ≡ take (c .text) (textAlone f depth s t b))
+
+abbrev pub AloneCutBegins : Type 0
+AloneCutBegins =
+    (f depth depth′ : ℕ) (s t b b′ : List ℕ) (c : Counts) → writtenAlone f depth s t (length b) ≡ NoRoom c → depth ≤ depth′ → depth′ ≤ 200 → length b ≤ length b′ →
+    textAlone f depth s t b ≡ take (length b) (textAlone f depth′ s t b′)
+
+-- the reported counts suffice, and less is refused by that limit's name.
+abbrev pub AloneSuffices : Type 0
+AloneSuffices =
+    (f depth depth′ : ℕ) (s t : List ℕ) (room room′ : ℕ) (c : Counts) → writtenAlone f depth s t room ≡ Answered c → c .depth ≤ depth′ → depth′ ≤ 200 → c .text ≤ room′ →
+    writtenAlone f depth′ s t room′ ≡ Answered c
+
+abbrev pub AloneTooShallow : Type 0
+AloneTooShallow =
+    (f depth depth′ : ℕ) (s t : List ℕ) (room room′ : ℕ) (c : Counts) → writtenAlone f depth s t room ≡ Answered c → depth′ < c .depth → writtenAlone f depth′ s t room′ ≡ TooDeep 0
+
+abbrev pub AloneTooSmall : Type 0
+AloneTooSmall =
+    (f depth depth′ : ℕ) (s t : List ℕ) (room room′ : ℕ) (c : Counts) → writtenAlone f depth s t room ≡ Answered c → c .depth ≤ depth′ → depth′ ≤ 200 → room′ < c .text →
+    writtenAlone f depth′ s t room′ ≡ NoRoom (countsIn room′ c)
+
+-- The reading call writes what the writer alone writes on its table: the same answer, at offset 0, and the same text.
+abbrev pub AloneAgrees : Type 0
+AloneAgrees =
+    (f depth : ℕ) (s t b : List ℕ) (c : Counts) → demangled f depth s t (length b) ≡ Answered c →
+    (writtenAlone f depth s (take (c .nodes * 12) (tableAfter f depth s t)) (length b) ≡ Answered (record { offset = 0; depth = c .depth; nodes = c .nodes; text = c .text }))
+    × (textAlone f depth s (take (c .nodes * 12) (tableAfter f depth s t)) b ≡ textAfter f depth s t b)
+
+-- ALL OF THEM
+pub record Promises : Type 0 where
+  pub read-numbers : ReadNumbers
+  pub write-numbers : WriteNumbers
+  pub name-numbers : NameNumbers
+  pub reports : Reports
+  pub known-words : KnownWords
+  pub one-read : OneRead
+  pub one-written : OneWritten
+  pub one-named : OneNamed
+  pub answered-leaves : AnsweredLeaves
+  pub syntax-leaves : SyntaxLeaves
+  pub limit-leaves : LimitLeaves
+  pub full-leaves : FullLeaves
+  pub nothing-left : NothingLeft
+  pub alone-nothing-left : AloneNothingLeft
+  pub alone-answered-leaves : AloneAnsweredLeaves
+  pub alone-full-leaves : AloneFullLeaves
+  pub zero-counts : ZeroCounts
+  pub old-contents : OldContents
+  pub accepts : Accepts
+  pub rejects : Rejects
+  pub more-answered : MoreAnswered
+  pub more-refused : MoreRefused
+  pub cut-begins : CutBegins
+  pub blames : Blames
+  pub spills : Spills
+  pub suffices : Suffices
+  pub too-shallow : TooShallow
+  pub too-few : TooFew
+  pub too-small : TooSmall
+  pub alone-accepts : AloneAccepts
+  pub alone-blames : AloneBlames
+  pub alone-spills : AloneSpills
+  pub alone-more-answered : AloneMoreAnswered
+  pub alone-cut-begins : AloneCutBegins
+  pub alone-suffices : AloneSuffices
+  pub alone-too-shallow : AloneTooShallow
+  pub alone-too-small : AloneTooSmall
+  pub alone-agrees : AloneAgrees
