@@ -49,6 +49,11 @@ honest-append : (ds es : List Demand) → Honest ds → Honest es → Honest (ds
 honest-append [] es h g = g
 honest-append (d ∷ ds) es h g = (h .0, honest-append ds es (h .1) g)
 
+-- of each demand of a list
+pub honest-at : (before : List Demand) (x : Demand) (after : List Demand) → Honest (before ++ (x ∷ after)) → x .state .used ≡ length (x .nodes)
+honest-at [] x after h = h .0
+honest-at (d ∷ before) x after h = honest-at before x after (h .1)
+
 pub record HonestLog (used : ℕ) (l : Log) : Type 0 where
   pub counted : used ≡ length (l .nodes)
   pub demands : Honest (l .asked)

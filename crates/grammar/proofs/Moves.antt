@@ -29,7 +29,7 @@ always : {A P : Type 0} (r : Reply A) → P → IfFound r (λ a. P)
 always (found a) p = p
 always (refused w) p = tt
 
-pick-reaches : {A T : Type 0} {s : List ℕ} {g : ℕ} (b : Bool) (x y : Out A T) → (b ≡ true → Reaches s g x) → (b ≡ false → Reaches s g y) → Reaches s g (pick b x y)
+pub pick-reaches : {A T : Type 0} {s : List ℕ} {g : ℕ} (b : Bool) (x y : Out A T) → (b ≡ true → Reaches s g x) → (b ≡ false → Reaches s g y) → Reaches s g (pick b x y)
 pick-reaches true x y p q = p refl
 pick-reaches false x y p q = q refl
 
@@ -54,6 +54,14 @@ onward-alike (refused w) st t f f′ h k = refl
 module _ {Tag T : Type 0} {Ans : Tag → Type 0} (s : List ℕ) (same : Same T) (shut : Shut T) (rec : Part Tag Ans T) where
   pub record Gains {A : Type 0} (n : ℕ) (p : Program Tag Ans A) : Type 0 where
     pub by : (st : State) (t : T) → st .at ≤ length s → Reaches s (2 * st .at + n) (run s same shut rec p st t)
+
+  -- after a program that reaches so far, what goes on alike from every place so far on is alike
+  pub then-alike :
+      {A B : Type 0} {m : ℕ} (p : Program Tag Ans B) (k k′ : B → Program Tag Ans A) (st : State) (t : T) → Reaches s m (run s same shut rec p st t) →
+      ((b : B) (st₁ : State) (t₁ : T) → Stands s m st₁ → run s same shut rec (k b) st₁ t₁ ≡ run s same shut rec (k′ b) st₁ t₁) →
+      run s same shut rec (sub p k) st t ≡ run s same shut rec (sub p k′) st t
+  unfolding run
+  then-alike p k k′ st t f h = let o = run s same shut rec p st t in onward-alike (o .reply) (o .state) (o .cells) _ _ (f .end) (λ b g. h b (o .state) (o .cells) g)
 
 module _ {Tag T : Type 0} {Ans : Tag → Type 0} {s : List ℕ} {same : Same T} {shut : Shut T} {rec : Part Tag Ans T} where
   pub then-gains : {A B : Type 0} (n m : ℕ) {p : Program Tag Ans B} {k : B → Program Tag Ans A} → Gains s same shut rec n p → ((b : B) → Gains s same shut rec m (k b)) → Gains s same shut rec (n + m) (sub p k)
@@ -84,17 +92,18 @@ module _ {Tag T : Type 0} {Ans : Tag → Type 0} {s : List ℕ} {same : Same T} 
         (λ e. g .by st t i);
   }
 
-  -- after a program that gains, what goes on alike from every place so far on is alike
-  pub then-alike :
-      {A B : Type 0} (n : ℕ) {p : Program Tag Ans B} (k k′ : B → Program Tag Ans A) (st : State) (t : T) → st .at ≤ length s → Gains s same shut rec n p →
-      ((b : B) (st₁ : State) (t₁ : T) → Stands s (2 * st .at + n) st₁ → run s same shut rec (k b) st₁ t₁ ≡ run s same shut rec (k′ b) st₁ t₁) →
-      run s same shut rec (sub p k) st t ≡ run s same shut rec (sub p k′) st t
-  unfolding run
-  then-alike n {p} k k′ st t i f h = let o = run s same shut rec p st t in onward-alike (o .reply) (o .state) (o .cells) _ _ (f .by st t i .end) (λ b g. h b (o .state) (o .cells) g)
-
 -- parts that keep what their tags promise
 abbrev pub Moving : {Tag T : Type 0} {Ans : Tag → Type 0} → List ℕ → (Tag → Promise) → Part Tag Ans T → Type 0
 Moving {Tag} {T} s promise rec = (tag : Tag) (z : ℕ) (st : State) (t : T) → st .at ≤ length s → z + promise tag .need ≤ 2 * st .at → Reaches s (z + promise tag .gives) (rec tag st t)
+
+-- so where a part needs nothing and gives something, its answer has taken a byte
+pub takes :
+    {Tag T : Type 0} {Ans : Tag → Type 0} (s : List ℕ) (promise : Tag → Promise) (rec : Part Tag Ans T) → Moving s promise rec → (tag : Tag) → promise tag .need ≡ 0 → 1 ≤ promise tag .gives →
+    (st : State) (t : T) (a : Ans tag) → st .at ≤ length s → rec tag st t .reply ≡ found a → (st .at < rec tag st t .state .at) × (rec tag st t .state .at ≤ length s)
+takes {Ans = Ans} s promise rec moving tag n g st t a i e =
+    let h : Stands s (2 * st .at + promise tag .gives) (rec tag st t .state) =
+    subst (λ (r : Reply (Ans tag)). IfFound r (λ a. Stands s (2 * st .at + promise tag .gives) (rec tag st t .state))) e (moving tag (2 * st .at) st t i (omega arith) .end) in
+    omega (arith, h .0, h .1)
 
 module _ {Tag T : Type 0} {Ans : Tag → Type 0} (s : List ℕ) (promise : Tag → Promise) (same : Same T) (shut : Shut T) (rec : Part Tag Ans T) (steady : Steady shut) (moving : Moving s promise rec) where
   pub run-moves : {A : Type 0} (p : Program Tag Ans A) (z c g : ℕ) (st : State) (t : T) → st .at ≤ length s → z + c ≤ 2 * st .at → Funded s promise (st .at) c g p → Reaches s (z + g) (run s same shut rec p st t)
@@ -122,12 +131,6 @@ module _ {Tag T : Type 0} {Ans : Tag → Type 0} (s : List ℕ) (promise : Tag �
       let e : o .state .at ≡ st .at = steady kd numbers refs st t .at in
       then-reaches (z + (c - 1)) (o .reply) (o .state) (o .cells) _ (always (o .reply) (omega arith))
       (λ n h. run-moves (k n) z (c - 1) g (o .state) (o .cells) (h .1) (h .0) (f .1 n (o .state .at) (h .1)))
-
-  -- a part that needs nothing and gives something
-  pub takes : (tag : Tag) → promise tag .need ≡ 0 → 1 ≤ promise tag .gives → (st : State) (t : T) (a : Ans tag) → st .at ≤ length s → rec tag st t .reply ≡ found a → (st .at < rec tag st t .state .at) × (rec tag st t .state .at ≤ length s)
-  takes tag n g st t a i e =
-      let h : Stands s (2 * st .at + promise tag .gives) (rec tag st t .state) = subst (λ (r : Reply (Ans tag)). IfFound r (λ a. Stands s (2 * st .at + promise tag .gives) (rec tag st t .state))) e (moving tag (2 * st .at) st t i (omega arith) .end) in
-      omega (arith, h .0, h .1)
 
   pub earned : {A : Type 0} {n : ℕ} (p : Program Tag Ans A) → Fund s promise 0 n p → Gains s same shut rec n p
   earned {n = n} p f = record { by = λ st t i. run-moves p (2 * st .at) 0 n st t i (omega arith) (f .by (st .at) i) }
