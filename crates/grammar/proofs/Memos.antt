@@ -1,7 +1,7 @@
 -- What a reading does with the memo, for every way to close a node, to read a part and to tell nodes apart.
 --     hands-back    a template that answers hands back the memo that it found
---     digit-NAME    a digit is the entry of the memo as it stands there, and takes its byte; past those in use it refuses
---     digit-turn    the same in a list: the entry gets its place, and no more
+--     digit-NAME    a digit is the entry of the memo as it stands there, and takes its byte; in a list (scope, params) the entry gets its place, and no more
+--     bad-NAME      a digit past the entries in use is refused behind its byte
 -- Assumes nothing.
 use Prim.Native.Nat.{ℕ, zero, suc, _+_, _-_, _<_, _≤_}
 use Prim.Native.Char.{code}

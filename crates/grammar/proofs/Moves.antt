@@ -18,7 +18,7 @@ use Rattle.grammar.proofs.Funded.{Promise, Funded, Fund, digit-inside}
 use Rattle.grammar.proofs.Calm.{IfFound}
 use Rattle.grammar.proofs.Memos.{Steady, nodes-steady, table-steady, asking-steady}
 
--- an answer stands within the symbol, half of `least` bytes or more from its start
+-- an answer stands within the symbol, and no nearer to its start than half of `least` bytes
 abbrev pub Stands : List ℕ → ℕ → State → Type 0
 Stands s least st = (least ≤ 2 * st .at) × (st .at ≤ length s)
 

@@ -65,7 +65,7 @@ module _ {T : Type 0} (s : List ℕ) (same : Same T) (shut : Shut T) (rec : Part
   abbrev Gained : {A : Type 0} → ℕ → Reading A → Type 0
   Gained n p = Gains s same shut rec n p
 
-  -- what opens no part of its own and counts no node gains what its bytes earn
+  -- a program gains what its bytes earn beyond its nodes; one that closes a place gains more, by node-gains
   earns : {A : Type 0} {n : ℕ} {p : Reading A} → Earns s 0 n p → Gained n p
   earns {p = p} f = earned s promise same shut rec (lawful .steady) (lawful .moving) p f
 
