@@ -12,3 +12,7 @@ pub mod Rows
 pub mod Calm
 pub mod Sound
 pub mod Formed
+pub mod Memos
+pub mod Moves
+pub mod Turns
+pub mod Honest

@@ -45,7 +45,7 @@ use Rattle.grammar.proofs.Funded.{Promise, Funded, Fund, Pays, pays, ca
 -- A part needs nothing and gives one, for the node or the place that refers to it. Five earn less than that:
 -- no type, and the symbol's own at its end, take no byte; the symbols of `??@` and `?$` count one node more than their names, and a template's `@` pays for two.
 -- They live on what stands before them: `?`, `??@`, `?$`, the `@` of the scope
-abbrev promise : Tag → Promise
+abbrev pub promise : Tag → Promise
 promise Parse = record { need = 0; gives = 1 }
 promise OuterMd5 = record { need = 0; gives = 0 }
 promise OuterTemplate = record { need = 1; gives = 0 }
@@ -66,7 +66,7 @@ promise NoParams = record { need = 0; gives = 1 }
 promise NoReturn = record { need = 0; gives = 1 }
 
 module _ (s : List ℕ) where
-  abbrev Earns : {A : Type 0} → ℕ → ℕ → Reading A → Type 0
+  abbrev pub Earns : {A : Type 0} → ℕ → ℕ → Reading A → Type 0
   Earns c g p = Fund s promise c g p
 
   -- less credit beforehand, and more afterwards, is proved already
@@ -86,7 +86,7 @@ module _ (s : List ℕ) where
   name-refs : (i : ℕ) {c g : ℕ} → g ≤ c → Earns c g (nameOf i)
   name-refs i l = recalls (λ m. chooses (ends l) fails)
 
-  type-refs : (i : ℕ) {c g : ℕ} → g ≤ c → Earns c g (typeOf i)
+  pub type-refs : (i : ℕ) {c g : ℕ} → g ≤ c → Earns c g (typeOf i)
   type-refs i l = recalls (λ m. chooses (ends l) fails)
 
   places : (k : Kind) (entry last : ℕ) {c g : ℕ} → g + 1 ≤ c → Earns c g (place k entry last)
@@ -102,7 +102,7 @@ module _ (s : List ℕ) where
   unqualifieds : (function : Bool) {c g : ℕ} → g ≤ c + 1 → Earns c g (unqualifiedName function)
   unqualifieds function l = digits stored (λ i. storeds i (omega arith)) (opens (Unqualified function) (omega arith))
 
-  nesteds : {c g : ℕ} → g ≤ c + 1 → Earns c g nestedName
+  pub nesteds : {c g : ℕ} → g ≤ c + 1 → Earns c g nestedName
   nesteds l = digits nameOf (λ i. name-refs i (omega arith)) (opens Nested (omega arith))
 
   module _ (c g : ℕ) (l : g ≤ c + 1) where
@@ -110,7 +110,7 @@ module _ (s : List ℕ) where
     reference-earns (reference.Stored d n) sc at i h = (omega (arith, length-drop at s), (λ m. ((λ e. omega arith), (λ e. tt))))
     reference-earns reference.Absent sc at i h = (omega arith, (λ a at′ i′. omega arith))
 
-  varTypes : (sc : ℕ) {c g : ℕ} → g ≤ c + 1 → Earns c g (varType sc)
+  pub varTypes : (sc : ℕ) {c g : ℕ} → g ≤ c + 1 → Earns c g (varType sc)
   varTypes sc {c} {g} l = record { by = λ at i. reference-earns c g l (typeReference (drop at s)) sc at i (reference-fits (drop at s)) }
 
   -- the productions
@@ -433,7 +433,7 @@ module _ (s : List ℕ) where
   parse-of-earns parse.Template = then 3 (opens OuterTemplate (omega arith)) (λ n. then 2 (opens NoType (omega arith)) (λ t. shuts (omega arith)))
   parse-of-earns parse.Name = less parse-name-earns (omega arith)
 
-  funded : (tag : Tag) → Earns (promise tag .need) (promise tag .gives) (body tag)
+  pub funded : (tag : Tag) → Earns (promise tag .need) (promise tag .gives) (body tag)
   unfolding body
   funded Parse = then 2 (expects "?" (omega arith)) (λ u. orders-all 1 parseForms parseOf refl parse-of-earns parse-name-earns)
   funded OuterMd5 = then 1 (opens MdFive (omega arith)) (λ n. shuts (omega arith))
