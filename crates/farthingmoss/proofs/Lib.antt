@@ -1,1 +1,1 @@
-pub mod Gates
+pub mod Roots

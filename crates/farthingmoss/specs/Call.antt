@@ -1,6 +1,6 @@
 -- The public calls: what each answers, by number, and what it leaves in the table and the text. `f` is the flag word, `s` the symbol, `t` the table, `b` the text
 -- buffer. Assumes nothing: these are definitions.
-use Prim.Native.Nat.{ℕ, suc, _+_, _-_, _/_, _%_, _^_}
+use Prim.Native.Nat.{ℕ, _+_, _-_}
 use mathlib.Core.Bool.{Bool, false}
 use mathlib.Core.List.{List, [], _∷_}
 use lib.Dec.{leb, ltb, eqb}
@@ -19,8 +19,9 @@ use Rattle.text.specs.Emit.{cut}
 use Rattle.writer.specs.declared.Written.{Written}
 use Rattle.writer.specs.declared.Written.the-variants.{Whole, Cut}
 use Rattle.writer.specs.Written.{textOf, written}
-use Rattle.farthingmoss.specs.declared.Gate.{Gate}
-use Rattle.farthingmoss.specs.declared.Gate.the-variants.{Open, Call, Symbol, High}
+use Rattle.gates.specs.declared.Gate.{Gate}
+use Rattle.gates.specs.declared.Gate.the-variants.{Open, Call, Symbol, High}
+use Rattle.gates.specs.Gates.{symbolGate, gate}
 use Rattle.farthingmoss.specs.declared.Answer.{Answer}
 use Rattle.farthingmoss.specs.declared.Answer.the-variants.{Answered, NoSymbol, NotAscii, NoDerivation, TooDeep, NoNode, NoRoom, BadCall, BadTable}
 
@@ -35,27 +36,6 @@ reportOf (NoNode at) = 5 ∷ at ∷ 0 ∷ 0 ∷ 0 ∷ []
 reportOf (NoRoom c) = 6 ∷ c .offset ∷ c .depth ∷ c .nodes ∷ c .text ∷ []
 reportOf BadCall = 7 ∷ 0 ∷ 0 ∷ 0 ∷ 0 ∷ []
 reportOf BadTable = 8 ∷ 0 ∷ 0 ∷ 0 ∷ 0 ∷ []
-
--- none of `count` bits of the flag word from bit `low` on
-abbrev pub lacks : ℕ → ℕ → ℕ → Bool
-lacks f low count = eqb (f / 2 ^ low % 2 ^ count) 0
-
--- the known bits are 1, 2, 5, 6, 7, 9 to 12 and 20 to 24: 0x01F01EE6
-unfoldable pub knownFlags : ℕ → Bool
-knownFlags f = pick (lacks f 0 1) (pick (lacks f 3 2) (pick (lacks f 8 1) (pick (lacks f 13 7) (lacks f 25 7) false) false) false) false
-
--- where the first byte of 128 or more stands; the length where there is none
-unfoldable pub highAt : List ℕ → ℕ
-highAt [] = 0
-highAt (c ∷ s) = pick (leb 128 c) 0 (suc (highAt s))
-
--- what refuses a call before anything is read: 1, 2
-unfoldable pub symbolGate : List ℕ → Gate
-symbolGate s = pick (eqb (length s) 0) Symbol (pick (leb (length s) 4096) (pick (ltb (highAt s) (length s)) (High (highAt s)) Open) Symbol)
-
--- and 7 before these
-unfoldable pub gate : ℕ → ℕ → List ℕ → Gate
-gate f depth s = pick (leb depth 200) (pick (knownFlags f) (symbolGate s) Call) Call
 
 abbrev pub through : Gate → Answer → Answer
 through Open a = a

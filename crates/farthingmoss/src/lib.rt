@@ -1,10 +1,13 @@
 // The public calls: any bytes, any flags, any buffers.
 ghost use mathlib.Core.Path.{_≡_};
 ghost use lib.ListN.{length};
-ghost use Rattle.farthingmoss.specs.Call.{knownFlags, highAt, symbolGate, gate, fitted, refusal, answerOf, textLeft, demangled, tableAfter, textAfter, rooted, rootAnswer, rootText, writtenAlone, textAlone, nameOk, nameAnswer, nameOf};
+ghost use Rattle.farthingmoss.specs.Call.{fitted, refusal, answerOf, textLeft, demangled, tableAfter, textAfter, rooted, rootAnswer, rootText, writtenAlone, textAlone, nameOk, nameAnswer, nameOf};
 
 pub mod exports;
 
+use gates::Gate;
+use gates::call_gate;
+use gates::symbol_gate;
 use grammar::Refusal;
 use grammar::State;
 use reader::Whole;
@@ -29,82 +32,9 @@ pub enum Answer {
     BadTable,
 }
 
-// What refuses a call before anything is read or written.
-pub enum Gate {
-    Open,
-    Call,
-    Symbol,
-    High(usize),
-}
-
-const DEPTH_MOST: u32 = 200;
-
-const SYMBOL_MOST: usize = 4096;
-
 const PARSE_RESULT: usize = 3;
 
 const PLAIN_NAME: usize = 10;
-
-// Whether each bit of the flag word is known.
-fn are_known(flags: u32) -> bool
-    ensures { λ r. ⌜ r ≡ knownFlags flags ⌝ }
-{
-    if flags % 2 != 0 {
-        return false;
-    }
-    if flags / 8 % 4 != 0 {
-        return false;
-    }
-    if flags / 256 % 2 != 0 {
-        return false;
-    }
-    if flags / 8192 % 128 != 0 {
-        return false;
-    }
-    flags / 33554432 % 128 == 0
-}
-
-// Where the first byte of 128 or more stands; the length where there is none.
-fn high_at(symbol: &[u8]) -> usize
-    ensures { λ r. ⌜ r ≡ highAt (now (symbol .entry)) ⌝ }
-{
-    let mut i = 0;
-    while i < symbol.len() {
-        if 128 <= symbol[i] {
-            break;
-        }
-        i += 1;
-    }
-    i
-}
-
-fn symbol_gate(symbol: &[u8]) -> Gate
-    ensures { λ r. ⌜ r ≡ symbolGate (now (symbol .entry)) ⌝ }
-{
-    if symbol.len() == 0 {
-        return Gate::Symbol;
-    }
-    if SYMBOL_MOST < symbol.len() {
-        return Gate::Symbol;
-    }
-    let high = high_at(symbol);
-    if high < symbol.len() {
-        return Gate::High(high);
-    }
-    Gate::Open
-}
-
-fn call_gate(flags: u32, depth: u32, symbol: &[u8]) -> Gate
-    ensures { λ r. ⌜ r ≡ gate flags depth (now (symbol .entry)) ⌝ }
-{
-    if DEPTH_MOST < depth {
-        return Gate::Call;
-    }
-    if are_known(flags) {
-        return symbol_gate(symbol);
-    }
-    Gate::Call
-}
 
 // A text written whole or cut, in a room.
 fn fit(offset: usize, depth: usize, nodes: usize, room: usize, w: Written) -> Answer

@@ -16,13 +16,14 @@ use Rattle.text.specs.Emit.{cut}
 use Rattle.text.proofs.Cut.{cut-fits, cut-over, take-cut-le}
 use Rattle.writer.specs.declared.Written.the-variants.{Whole, Cut}
 use Rattle.writer.specs.Written.{written}
-use Rattle.farthingmoss.specs.declared.Gate.{Gate}
-use Rattle.farthingmoss.specs.declared.Gate.the-variants.{Open, Call, Symbol, High}
+use Rattle.gates.specs.declared.Gate.{Gate}
+use Rattle.gates.specs.declared.Gate.the-variants.{Open, Call, Symbol, High}
 use Rattle.farthingmoss.specs.declared.Counts.{Counts}
 use Rattle.farthingmoss.specs.declared.Answer.{Answer}
 use Rattle.farthingmoss.specs.declared.Answer.the-variants.{Answered, NoSymbol, NotAscii, NoDerivation, TooDeep, NoNode, NoRoom, BadCall, BadTable}
-use Rattle.farthingmoss.specs.Call.{gate, through, kept, fitted, rooted, rootHeight, rootAnswer, rootText, writtenAlone, textAlone}
-use Rattle.farthingmoss.proofs.Gates.{open-low}
+use Rattle.gates.specs.Gates.{gate}
+use Rattle.farthingmoss.specs.Call.{through, kept, fitted, rooted, rootHeight, rootAnswer, rootText, writtenAlone, textAlone}
+use Rattle.gates.proofs.Opens.{open-low}
 use Rattle.promises.specs.Promises.{countsIn, Rooted, rootWords, rootCounts, says, AloneNothingLeft, AloneAnsweredLeaves, AloneFullLeaves, AloneAccepts, AloneBlames, AloneSpills, AloneMoreAnswered, AloneCutBegins, AloneSuffices, AloneTooShallow, AloneTooSmall}
 use Rattle.promises.proofs.Reading.{open-again}
 use Rattle.promises.proofs.Grammar.{written-whole, written-cut, fitted-whole, fitted-cut, impossible}

@@ -14,7 +14,7 @@ use Rattle.text.proofs.Cut.{take-cut-le}
 use Rattle.farthingmoss.specs.declared.Counts.{Counts}
 use Rattle.farthingmoss.specs.declared.Answer.the-variants.{Answered, NoDerivation, TooDeep, NoNode, NoRoom}
 use Rattle.farthingmoss.specs.Call.{refusal, demangled, tableAfter, textAfter}
-use Rattle.farthingmoss.proofs.Gates.{open-low}
+use Rattle.gates.proofs.Opens.{open-low}
 use Rattle.promises.specs.Promises.{own, ownText, countsIn, Within, Accepted, MoreAnswered, MoreRefused, CutBegins, Suffices, TooShallow, TooFew, TooSmall}
 use Rattle.promises.proofs.Reading.{open-again, open-answers, settles-shallow, settles-cramped, within-writes}
 use Rattle.promises.proofs.Grammar.{accepts, writes, leaves, spills, refuses, begins, accepted, spilled, rejected}

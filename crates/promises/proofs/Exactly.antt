@@ -10,9 +10,10 @@ use Rattle.grammar.specs.Counts.{Node, Limit, depth, room, name, bare, fits}
 use Rattle.grammar.proofs.Demands.{passed, settled-fits}
 use Rattle.grammar.proofs.First.{settled-first, first-over}
 use Rattle.reader.specs.Whole.{whole}
-use Rattle.farthingmoss.specs.declared.Gate.the-variants.{Open}
-use Rattle.farthingmoss.specs.Call.{gate, refusal, demangled}
-use Rattle.farthingmoss.proofs.Gates.{open-low}
+use Rattle.gates.specs.declared.Gate.the-variants.{Open}
+use Rattle.gates.specs.Gates.{gate}
+use Rattle.farthingmoss.specs.Call.{refusal, demangled}
+use Rattle.gates.proofs.Opens.{open-low}
 use Rattle.promises.specs.Promises.{own, Blamed, Blames}
 use Rattle.promises.proofs.Reading.{own-low, said, open-answers, isRead, demangled-open, refusal-read}
 use Rattle.promises.proofs.Grammar.{said-refused}

@@ -11,7 +11,7 @@ use lib.Arith.{mod-mul}
 use lib.Pow.{pow-pos, pow-mono, shr-shr}
 use Rattle.scan.specs.Bytes.{pick}
 use Rattle.scan.proofs.Laws.{range, on-range}
-use Rattle.farthingmoss.specs.Call.{lacks, knownFlags}
+use Rattle.gates.specs.Gates.{lacks, knownFlags}
 use Rattle.promises.specs.Promises.{bit, KnownWords}
 
 -- the lowest bit, and those above it

@@ -1,4 +1,5 @@
 -- Every promise is kept. Assumes nothing.
+use Rattle.scan.specs.Cases.{number-cases}
 use Rattle.promises.specs.Promises.{Promises}
 use Rattle.promises.proofs.Grammar as grammar
 use Rattle.promises.proofs.Budgets as budgets
@@ -9,6 +10,7 @@ use Rattle.promises.proofs.AloneBudgets as writer
 use Rattle.promises.proofs.OneAnswer as one
 use Rattle.promises.proofs.Told as told
 use Rattle.promises.proofs.Flags as flags
+use Rattle.promises.proofs.Memos as memos
 
 pub kept : Promises
 kept = record {
@@ -20,6 +22,7 @@ kept = record {
   one-read = one.one-read;
   one-written = one.one-written;
   one-named = one.one-named;
+  number-cases = number-cases;
   answered-leaves = left.answered-leaves;
   syntax-leaves = left.syntax-leaves;
   limit-leaves = left.limit-leaves;
@@ -32,6 +35,9 @@ kept = record {
   old-contents = left.old-contents;
   accepts = grammar.accepts-exactly;
   rejects = grammar.rejects-exactly;
+  templates-hand-back = memos.templates-hand-back;
+  digits-recall = memos.digits-recall;
+  lists-end = memos.lists-end;
   more-answered = budgets.answered-more;
   more-refused = budgets.refused-more;
   cut-begins = budgets.cut-begins;

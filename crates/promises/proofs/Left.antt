@@ -10,20 +10,23 @@ use Rattle.scan.specs.Bytes.{pick}
 use Rattle.node.specs.Cells.{nodes}
 use Rattle.grammar.specs.Program.{Reply, found, refused, Out}
 use Rattle.grammar.specs.Counts.{Node, bare}
-use Rattle.grammar.specs.Table.{cellsOf}
+use Rattle.grammar.specs.Table.{cellsOf, sameNodes}
+use Rattle.grammar.specs.Grammar.{Parse, body}
 use Rattle.grammar.specs.declared.State.{State}
 use Rattle.grammar.proofs.First.{settled-first}
-use Rattle.reader.specs.Whole.{whole, cellsLeft}
+use Rattle.grammar.proofs.Honest.{HonestLog, honest-at, reads-honest}
+use Rattle.reader.specs.Whole.{start, whole, cellsLeft}
 use Rattle.writer.specs.declared.Written.the-variants.{Whole, Cut}
 use Rattle.writer.specs.Written.{written}
-use Rattle.farthingmoss.specs.declared.Gate.{Gate}
-use Rattle.farthingmoss.specs.declared.Gate.the-variants.{Open, Call, Symbol, High}
+use Rattle.gates.specs.declared.Gate.{Gate}
+use Rattle.gates.specs.declared.Gate.the-variants.{Open, Call, Symbol, High}
 use Rattle.farthingmoss.specs.declared.Counts.{Counts}
 use Rattle.farthingmoss.specs.declared.Answer.{Answer}
 use Rattle.farthingmoss.specs.declared.Answer.the-variants.{Answered, NoSymbol, NotAscii, NoDerivation, TooDeep, NoNode, NoRoom, BadCall, BadTable}
-use Rattle.farthingmoss.specs.Call.{gate, fitted, demangled, tableAfter, textAfter}
-use Rattle.farthingmoss.proofs.Gates.{open-low}
-use Rattle.promises.specs.Promises.{own, ownNodes, ownText, says, AnsweredLeaves, SyntaxLeaves, LimitLeaves, FullLeaves, NothingLeft, OldContents}
+use Rattle.gates.specs.Gates.{gate}
+use Rattle.farthingmoss.specs.Call.{fitted, demangled, tableAfter, textAfter}
+use Rattle.gates.proofs.Opens.{open-low}
+use Rattle.promises.specs.Promises.{own, ownNodes, ownText, says, zeroed, AnsweredLeaves, SyntaxLeaves, LimitLeaves, FullLeaves, NothingLeft, OldContents}
 use Rattle.promises.proofs.Reading.{said, wrote, open-answers, open-leaves, open-writes, within-leaves, within-writes, isRead, refusal-read}
 use Rattle.promises.proofs.Grammar.{impossible, nodes-left, writes, begins, accepted, spilled, rejected}
 use Rattle.promises.proofs.Budgets.{more-text}
@@ -81,15 +84,20 @@ full-leaves f depth s t b c e =
     let n : own s .state .used ≡ c .nodes = ap (λ (x : Counts). x .nodes) (sym (r .counts)) in
     (r .root, r .derives, nodes-left (r .holds) (r .root) (r .derives) ∙ ap (λ k. cellsOf (ownNodes s) ++ drop (k * 12) t) n, begins (r .holds) (r .root) b (r .derives) (r .over))
 
+-- a reading and each of its demands have as many nodes as they count
+own-honest : (s : List ℕ) → HonestLog (own s .state .used) (own s .cells)
+own-honest s = reads-honest body (sameNodes s) s 200 Parse start (record { nodes = []; asked = [] }) (record { counted = refl; demands = tt })
+
 pub syntax-leaves : SyntaxLeaves
 syntax-leaves f depth s t b at e =
     let r = rejected f depth s t (length b) e in
-    (within-leaves (r .holds) ∙ rw (r .refuses), within-writes (r .holds) b ∙ rw (r .refuses))
+    (within-leaves (r .holds) ∙ rw (r .refuses) (ap (λ k. zeroed k t) (sym (own-honest s .counted))), within-writes (r .holds) b ∙ rw (r .refuses))
 
 pub limit-leaves : LimitLeaves
 limit-leaves l f depth s t b at w =
     let z = settled-first depth (nodes t) (bare (own s)) (w .first) in
-    (open-leaves f depth s t (w .opens) ∙ ap (λ (o : Out ℕ (List Node)). cellsLeft (o .reply) (o .cells) ++ drop (length (o .cells) * 12) t) z, open-writes f depth s t (w .opens) b ∙ ap (λ (o : Out ℕ (List Node)). wrote f s b (o .reply) (o .cells)) z)
+    let h = honest-at (w .first .before) (w .demand) (w .first .after) (rw (w .first .is) at (own-honest s .demands)) in
+    (open-leaves f depth s t (w .opens) ∙ ap (λ (o : Out ℕ (List Node)). cellsLeft (o .reply) (o .cells) ++ drop (length (o .cells) * 12) t) z ∙ ap (λ k. zeroed k t) (sym h), open-writes f depth s t (w .opens) b ∙ ap (λ (o : Out ℕ (List Node)). wrote f s b (o .reply) (o .cells)) z)
 
 -- what stood in the table does not matter: a call asks for its room alone
 same-gate : (f depth : ℕ) (s t t′ : List ℕ) (room : ℕ) (g : Gate) → gate f depth s ≡ g → (g ≡ Open → demangled f depth s t room ≡ demangled f depth s t′ room) → demangled f depth s t room ≡ demangled f depth s t′ room

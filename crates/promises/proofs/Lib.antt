@@ -9,4 +9,5 @@ pub mod AloneBudgets
 pub mod OneAnswer
 pub mod Told
 pub mod Flags
+pub mod Memos
 pub mod Kept

@@ -30,12 +30,13 @@ use Rattle.grammar.proofs.Formed as formed
 use Rattle.reader.specs.Whole.{start, whole, inside, told, cellsLeft}
 use Rattle.text.specs.Emit.{cut}
 use Rattle.writer.specs.Written.{textOf, written}
-use Rattle.farthingmoss.specs.declared.Gate.{Gate}
-use Rattle.farthingmoss.specs.declared.Gate.the-variants.{Open, Call, Symbol, High}
+use Rattle.gates.specs.declared.Gate.{Gate}
+use Rattle.gates.specs.declared.Gate.the-variants.{Open, Call, Symbol, High}
 use Rattle.farthingmoss.specs.declared.Answer.{Answer}
 use Rattle.farthingmoss.specs.declared.Answer.the-variants.{Answered, NoSymbol, NotAscii, NoDerivation, TooDeep, NoNode, NoRoom, BadCall, BadTable}
-use Rattle.farthingmoss.specs.Call.{knownFlags, symbolGate, gate, through, fitted, refusal, answerOf, textLeft, demangled, tableAfter, textAfter}
-use Rattle.farthingmoss.proofs.Gates.{open-low}
+use Rattle.gates.specs.Gates.{knownFlags, symbolGate, gate}
+use Rattle.farthingmoss.specs.Call.{through, fitted, refusal, answerOf, textLeft, demangled, tableAfter, textAfter}
+use Rattle.gates.proofs.Opens.{open-low}
 use Rattle.promises.specs.Promises.{own, Within}
 
 -- an open gate: the symbol is short, and the gate is open for every other depth up to 200

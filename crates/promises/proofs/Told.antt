@@ -14,11 +14,12 @@ use Rattle.grammar.specs.declared.Refusal.the-variants.{Syntax, Deep, Full}
 use Rattle.reader.specs.Whole.{whole}
 use Rattle.writer.specs.declared.Written.the-variants.{Whole, Cut}
 use Rattle.writer.specs.Written.{written}
-use Rattle.farthingmoss.specs.declared.Gate.{Gate}
-use Rattle.farthingmoss.specs.declared.Gate.the-variants.{Open, Call, Symbol, High}
+use Rattle.gates.specs.declared.Gate.{Gate}
+use Rattle.gates.specs.declared.Gate.the-variants.{Open, Call, Symbol, High}
 use Rattle.farthingmoss.specs.declared.Answer.{Answer}
 use Rattle.farthingmoss.specs.declared.Answer.the-variants.{Answered, NoSymbol, NotAscii, NoDerivation, TooDeep, NoNode, NoRoom, BadCall, BadTable}
-use Rattle.farthingmoss.specs.Call.{gate, highAt, symbolGate, through, fitted, filled, demangled, rooted, rootHeight, rootAnswer, writtenAlone, nameOk, nameAnswer}
+use Rattle.gates.specs.Gates.{gate, highAt, symbolGate}
+use Rattle.farthingmoss.specs.Call.{through, fitted, filled, demangled, rooted, rootHeight, rootAnswer, writtenAlone, nameOk, nameAnswer}
 use Rattle.promises.specs.Promises.{says, ReadNumbers, WriteNumbers, NameNumbers, Reports, ZeroCounts}
 use Rattle.promises.proofs.Reading.{said, open-answers}
 

@@ -2,25 +2,34 @@
 -- above it. `Promises`, at the end, is all of them, and the function of src/lib.rt is proved only where each has a proof.
 -- `f` is the flag word, `depth` the depth budget, `s` the symbol, `t` the table, `b` the text buffer and `room` its length; a prime marks a second call's.
 -- Assumes nothing: these are definitions.
-use Prim.Native.Nat.{ℕ, _+_, _*_, _/_, _%_, _^_, _≤_, _<_}
-use mathlib.Core.Bool.{Bool, true}
+use Prim.Native.Nat.{ℕ, suc, _+_, _-_, _*_, _/_, _%_, _^_, _≤_, _<_}
+use Prim.Native.Char.{code}
+use mathlib.Core.Bool.{Bool, true, false}
 use mathlib.Core.Path.{_≡_}
 use mathlib.Core.List.{List, [], _∷_, _++_}
 use lib.Dec.{eqb}
 use lib.ListN.{length, take, drop, getD, replicate}
+use Rattle.scan.specs.Bytes.{isDigit}
+use Rattle.scan.specs.Cases.{NumberCases}
+use Rattle.forms.specs.Types.{typeReference}
+use Rattle.forms.specs.declared.types.Reference.the-variants.{Stored}
 use Rattle.node.specs.Cells.{nodes}
-use Rattle.grammar.specs.Program.{Out, found, refused, anyOf}
-use Rattle.grammar.specs.Counts.{Node, Limit, Demand, Log, First, name, asks}
-use Rattle.grammar.specs.Table.{cellsOf, sameNodes}
-use Rattle.grammar.specs.Grammar.{Parse, body}
+use Rattle.node.specs.Kind.{NamePlace, TypePlace}
+use Rattle.grammar.specs.Program.{ret, found, refused, Out, out, Part, Shut, Same, run, at+, anyOf}
+use Rattle.grammar.specs.Words.{byteAt, _>>=_}
+use Rattle.grammar.specs.Counts.{Node, Limit, Demand, Log, First, name, shutNodes, readNodes, shutAsking, readAsking, asks}
+use Rattle.grammar.specs.Table.{cellsOf, sameNodes, sameTable, shutTable, readTable}
+use Rattle.grammar.specs.Grammar.{Tag, Ans, Parse, Reading, body, unqualifiedName, nestedName, varType, place, scopeFrom, paramsFrom, templateName}
+use Rattle.grammar.specs.declared.State.{State}
 use Rattle.grammar.specs.declared.Refusal.the-variants.{Syntax}
 use Rattle.reader.specs.Whole.{start}
 use Rattle.writer.specs.Written.{textOf}
-use Rattle.farthingmoss.specs.declared.Gate.the-variants.{Open}
+use Rattle.gates.specs.declared.Gate.the-variants.{Open}
 use Rattle.farthingmoss.specs.declared.Counts.{Counts}
 use Rattle.farthingmoss.specs.declared.Answer.{Answer}
 use Rattle.farthingmoss.specs.declared.Answer.the-variants.{Answered, NoDerivation, TooDeep, NoNode, NoRoom}
-use Rattle.farthingmoss.specs.Call.{reportOf, reported, knownFlags, gate, refusal, demangled, tableAfter, textAfter, rooted, rootHeight, writtenAlone, textAlone, nameAnswer, nameOf}
+use Rattle.gates.specs.Gates.{knownFlags, gate}
+use Rattle.farthingmoss.specs.Call.{reportOf, reported, refusal, demangled, tableAfter, textAfter, rooted, rootHeight, writtenAlone, textAlone, nameAnswer, nameOf}
 
 -- THE WORDS
 
@@ -150,6 +159,8 @@ OneWritten = (f depth : ℕ) (s t b t₁ b₁ t₂ b₂ : List ℕ) (r₁ r₂ :
 abbrev pub OneNamed : Type 0
 OneNamed = (s t : List ℕ) (n : ℕ) (p₁ t₁ p₂ t₂ : List ℕ) (r₁ r₂ : Answer) → Names s t n r₁ p₁ t₁ → Names s t n r₂ p₂ t₂ → (r₁ ≡ r₂) × (p₁ ≡ p₂) × (t₁ ≡ t₂)
 
+-- The numbers that the scope marks to be proved: `NumberCases`, one table and one statement, beside the rule (crates/scan/specs/Cases.antt).
+
 -- LEFT BEHIND
 
 -- Answered: the nodes, the text, all later cells and bytes unchanged. (The nodes are the derivation's, the text is that of its tree.)
@@ -162,12 +173,12 @@ AnsweredLeaves =
 abbrev pub SyntaxLeaves : Type 0
 SyntaxLeaves =
     (f depth : ℕ) (s t b : List ℕ) (at : ℕ) → demangled f depth s t (length b) ≡ NoDerivation at →
-    (tableAfter f depth s t ≡ zeroed (length (ownNodes s)) t) × (textAfter f depth s t b ≡ b)
+    (tableAfter f depth s t ≡ zeroed (own s .state .used) t) × (textAfter f depth s t b ≡ b)
 
 -- Refusals 4 and 5: zero are those counted before the first demand that passes its limit.
 abbrev pub LimitLeaves : Type 0
 LimitLeaves =
-    (l : Limit) (f depth : ℕ) (s t b : List ℕ) (at : ℕ) (w : Blamed l f depth s t at) → (tableAfter f depth s t ≡ zeroed (length (w .demand .nodes)) t) × (textAfter f depth s t b ≡ b)
+    (l : Limit) (f depth : ℕ) (s t b : List ℕ) (at : ℕ) (w : Blamed l f depth s t at) → (tableAfter f depth s t ≡ zeroed (w .demand .state .used) t) × (textAfter f depth s t b ≡ b)
 
 -- Refusal 6: the table as answered, the text buffer full with the beginning of the text.
 abbrev pub FullLeaves : Type 0
@@ -212,6 +223,63 @@ abbrev pub Rejects : Type 0
 Rejects =
     (f depth : ℕ) (s t : List ℕ) (room at : ℕ) →
     (demangled f depth s t room ≡ NoDerivation at → Rejected f depth s t at) × (Rejected f depth s t at → demangled f depth s t room ≡ NoDerivation at)
+
+-- A back-reference. What is said of a reading, whatever it is written on: `same` is when two nodes are equal, `shut` how a node is closed, `rec` how a part is read.
+abbrev pub Said : Type 1
+Said = (T : Type 0) → List ℕ → Same T → Shut T → Part Tag Ans T → Type 0
+
+-- It is said of the reading over a lent table, which the reader's own promise cites, of that over a list of nodes, and of that with no budget: for every symbol, within
+-- every budget, for every number d of parts that may still open.
+abbrev pub OfEachReading : Said → Type 0
+OfEachReading P =
+    (s : List ℕ) →
+    ((limit room d : ℕ) → P (List ℕ) s (sameTable s) (shutTable limit room) (readTable body s limit room d))
+    × ((same : Same (List Node)) (limit room d : ℕ) → P (List Node) s same (shutNodes limit room) (readNodes body same s limit room d))
+    × ((same : Same (List Node)) (d : ℕ) → P Log s (λ used l. same used (l .nodes)) shutAsking (readAsking body same s d))
+
+module _ (T : Type 0) (s : List ℕ) (same : Same T) (shut : Shut T) (rec : Part Tag Ans T) where
+  abbrev pub HandsBack : Type 0
+  HandsBack = (st : State) (t : T) (n : ℕ) → run s same shut rec templateName st t .reply ≡ found n → run s same shut rec templateName st t .state .memo ≡ st .memo
+
+  -- p is entry i of those in use, spelled by n bytes: it goes on with that entry behind them, and nothing else has changed. An entry that is not in use is refused there.
+  abbrev pub Recalls : {A : Type 0} → List ℕ → ℕ → ℕ → ℕ → Reading A → (ℕ → Reading A) → State → T → Type 0
+  Recalls entries used i n p next st t =
+      (i < used → run s same shut rec p st t ≡ run s same shut rec (next (getD entries i 0)) (at+ n st) t) × (used ≤ i → run s same shut rec p st t ≡ out (refused Syntax) (at+ n st) t)
+
+  -- where a digit stands, p is that name, or that type, of the memo as it stands at this moment
+  abbrev pub RecallsName : {A : Type 0} → Reading A → (ℕ → Reading A) → Type 0
+  RecallsName p next = (st : State) (t : T) → isDigit (byteAt s (st .at)) ≡ true → Recalls (st .memo .names) (st .memo .«names_len») (byteAt s (st .at) - code "0") 1 p next st t
+
+  abbrev pub RecallsType : {A : Type 0} → Reading A → (ℕ → Reading A) → Type 0
+  RecallsType p next = (st : State) (t : T) → isDigit (byteAt s (st .at)) ≡ true → Recalls (st .memo .types) (st .memo .«types_len») (byteAt s (st .at) - code "0") 1 p next st t
+
+  -- in the three readers that take one (a type's digit may stand behind `$` or `$$C`: `spelled`), and in the two lists, where its place is closed and the list goes on
+  pub record Digits : Type 0 where
+    pub unqualified : (function : Bool) → RecallsName (unqualifiedName function) (λ e. ret (e, false))
+    pub nested : RecallsName nestedName ret
+    pub type : (sc : ℕ) → RecallsType (varType sc) ret
+    pub spelled : (sc i n : ℕ) (st : State) (t : T) → typeReference (drop (st .at) s) ≡ Stored i n → Recalls (st .memo .types) (st .memo .«types_len») i n (varType sc) ret st t
+    pub scope : (turns last : ℕ) → RecallsName (scopeFrom (suc turns) last) (λ e. place NamePlace e last >>= scopeFrom turns)
+    pub params : (turns last : ℕ) → RecallsType (paramsFrom (suc turns) last) (λ e. place TypePlace e last >>= paramsFrom turns)
+
+  -- with k more turns, from any state, the reading of a list is the same
+  abbrev pub TurnsLast : (ℕ → ℕ → Reading ℕ) → Type 0
+  TurnsLast list = (k last : ℕ) (st : State) (t : T) → run s same shut rec (list (length s - st .at + 1 + k) last) st t ≡ run s same shut rec (list (length s - st .at + 1) last) st t
+
+  abbrev pub EnoughTurns : Type 0
+  EnoughTurns = TurnsLast scopeFrom × TurnsLast paramsFrom
+
+-- An answered reading of a template hands back the memo that it found: the fault that this project exists for.
+abbrev pub TemplatesHandBack : Type 0
+TemplatesHandBack = OfEachReading HandsBack
+
+-- A digit yields that entry of the memo as it stands at that moment, and changes nothing but the place (and, in a list, counts its place).
+abbrev pub DigitsRecall : Type 0
+DigitsRecall = OfEachReading Digits
+
+-- The turns that the grammar gives a list never run out.
+abbrev pub ListsEnd : Type 0
+ListsEnd = OfEachReading EnoughTurns
 
 -- DEMAND 3: more room never changes a word, and the reported counts suffice exactly
 
@@ -328,6 +396,7 @@ pub record Promises : Type 0 where
   pub one-read : OneRead
   pub one-written : OneWritten
   pub one-named : OneNamed
+  pub number-cases : NumberCases
   pub answered-leaves : AnsweredLeaves
   pub syntax-leaves : SyntaxLeaves
   pub limit-leaves : LimitLeaves
@@ -340,6 +409,9 @@ pub record Promises : Type 0 where
   pub old-contents : OldContents
   pub accepts : Accepts
   pub rejects : Rejects
+  pub templates-hand-back : TemplatesHandBack
+  pub digits-recall : DigitsRecall
+  pub lists-end : ListsEnd
   pub more-answered : MoreAnswered
   pub more-refused : MoreRefused
   pub cut-begins : CutBegins

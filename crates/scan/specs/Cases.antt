@@ -12,26 +12,30 @@ use Rattle.scan.specs.declared.cursor.Leaf.{Leaf}
 use Rattle.scan.specs.declared.cursor.Leaf.the-variants.{Value, Bad}
 
 -- a signed number, or the offset of the refusal
-data Outcome : Type 0 where
+pub data Outcome : Type 0 where
   value : ℤ → Outcome
   refused : ℕ → Outcome
 
-abbrev outcome : Leaf → Outcome
+abbrev pub outcome : Leaf → Outcome
 outcome (Value v n) = value (toZ w32 v)
 outcome (Bad n) = refused n
 
-abbrev read : List (String × Outcome) → List Outcome
+abbrev pub read : List (String × Outcome) → List Outcome
 read cases = map (λ c. outcome (readNumber (bytes (c .0)))) cases
 
-abbrev stated : List (String × Outcome) → List Outcome
+abbrev pub stated : List (String × Outcome) → List Outcome
 stated cases = map (λ c. c .1) cases
 
-abbrev numbers : List (String × Outcome)
+abbrev pub numbers : List (String × Outcome)
 numbers =
     ("0", value (pos 1)) ∷ ("9", value (pos 10)) ∷ ("?0", value (negsuc 0)) ∷ ("@", value (pos 0)) ∷ ("?@", value (pos 0))
     ∷ ("BA@", value (pos 16)) ∷ ("?BA@", value (negsuc 15)) ∷ ("PPPPPPPP@", value (negsuc 0)) ∷ ("BAAAAAAAA@", value (pos 0))
     ∷ ("?IAAAAAAA@", value (negsuc 2147483647)) ∷ ("B0@", refused 0) ∷ ("A", refused 0) ∷ []
 
-cases : read numbers ≡ stated numbers
+-- the table is what the written rule gives
+abbrev pub NumberCases : Type 0
+NumberCases = read numbers ≡ stated numbers
+
+pub number-cases : NumberCases
 unfolding readNumber magnitude letters
-cases = refl
+number-cases = refl

@@ -3,7 +3,7 @@
 use mathlib.Core.Path.{sym, _∙_, refl}
 use native.Mathlib.Omega.{arith}
 use Rattle.farthingmoss.specs.Call.{demangled, tableAfter, textAfter}
-use Rattle.farthingmoss.proofs.Gates.{open-low}
+use Rattle.gates.proofs.Opens.{open-low}
 use borrow.Author.Needs.{needs}
 use Rattle.farthingmoss.proofs.demangle.Statement.{statement}
 use Rattle.farthingmoss.proofs.demangle.Tie as tie

@@ -4,7 +4,7 @@ use mathlib.Core.Path.{sym, ap, _∙_, refl}
 use native.Mathlib.Omega.{arith}
 use borrow.Author.Tests.{le-leb, lt-leb, not-true, not-false}
 use Rattle.farthingmoss.specs.Call.{fitted, rootAnswer, rootText}
-use Rattle.farthingmoss.proofs.Gates.{rooted-some}
+use Rattle.farthingmoss.proofs.Roots.{rooted-some}
 use borrow.Author.Needs.{needs}
 use Rattle.farthingmoss.proofs.write_root.Statement.{statement}
 use Rattle.farthingmoss.proofs.write_root.Tie as tie

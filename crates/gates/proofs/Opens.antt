@@ -1,0 +1,20 @@
+-- What an open gate promises. Assumes nothing.
+use Prim.Native.Nat.{ℕ, _≤_}
+use mathlib.Core.Bool.{Bool, true, false}
+use mathlib.Core.Path.{_≡_, refl}
+use mathlib.Core.List.{List}
+use lib.Dec.{leb}
+use borrow.Author.Tests.{leb-true}
+use Rattle.scan.specs.Bytes.{pick}
+use Rattle.gates.specs.declared.Gate.{Gate}
+use Rattle.gates.specs.declared.Gate.the-variants.{Open, Call}
+use Rattle.gates.specs.Gates.{gate}
+
+-- a test that leads to Call where it fails has held before Open
+open-held : (b : Bool) (g : Gate) → pick b g Call ≡ Open → b ≡ true
+open-held true g e = refl
+open-held false g e = cc
+
+pub open-low : (f depth : ℕ) (s : List ℕ) → gate f depth s ≡ Open → depth ≤ 200
+unfolding gate
+open-low f depth s e = leb-true depth 200 (open-held (leb depth 200) _ e)
