@@ -14,8 +14,9 @@ use lib.Dec.{eqb}
 use lib.ListN.{length, take, drop, length-append}
 use lib.Seq.{append-snoc, take-all, length-take-le}
 use Rattle.scan.specs.Bytes.{pick}
-use Rattle.undname.proofs.Answers.{long-line}
-use Rattle.undname.specs.Output.{lineOf, newlineAt, Open, linesFrom, answersTo, output}
+use Rattle.answer_line.proofs.Answers.{long-line}
+use Rattle.answer_line.specs.Line.{lineOf}
+use Rattle.lines.specs.Output.{newlineAt, Open, linesFrom, answersTo, output}
 
 pub newline-within : (s : List ℕ) → newlineAt s ≤ length s
 unfolding newlineAt

@@ -1,21 +1,23 @@
 -- The steps of the program, over the bytes that wait and the output that is owed. Assumes nothing.
 use Prim.Native.Nat.{ℕ, suc, _+_, _-_, _≤_, _<_, min}
-use mathlib.Core.Bool.{true, false}
+use mathlib.Core.Bool.{Bool, true, false}
 use mathlib.Core.Path.{_≡_, refl, sym, ap, ap₂, _∙_}
 use mathlib.Core.List.{List, _++_, append-nil, append-assoc}
 use native.Mathlib.Decide.{decLe}
 use native.Mathlib.Omega.{arith}
+use borrow.Author.Tests.{ltb-true, ltb-false}
+use lib.Dec.{ltb}
 use lib.ListN.{length, take, drop, set, getD, length-append, length-drop, length-take}
 use lib.Seq.{length-take-le, drop-drop, getD-append-add, getD-drop, take-at, drop-at, take-all, take-take, take-add}
 use Rattle.text.specs.Emit.{Wrote, lit}
 use Rattle.text.proofs.Cut.{length-cut, take-cut}
 use Rattle.text.proofs.Seq.{place-fits}
 use Rattle.text.proofs.Stores.{over, over-more}
-use Rattle.undname.specs.Output.{lineOf, newlineAt, Open, output, Keeps, Reaches, Ready}
-use Rattle.undname.specs.declared.Got.{Got}
-use Rattle.undname.specs.declared.Got.the-variants.{Bytes}
-use Rattle.undname.proofs.Answers.{line-short}
-use Rattle.undname.proofs.Splits.{answers-first, last-line, no-line, cut-short, open-take}
+use Rattle.answer_line.specs.Line.{lineOf}
+use Rattle.answer_line.proofs.Answers.{line-short}
+use Rattle.lines.specs.Output.{newlineAt, Open, output}
+use Rattle.lines.specs.Steps.{Steps, Goes, Share}
+use Rattle.lines.proofs.Splits.{answers-first, last-line, no-line, cut-short, open-take}
 
 -- what is written where there is room stands after what waits
 module _ (w : List ℕ) {b b′ : List ℕ} {o o′ : ℕ} (v : Wrote (lit w) b o b′ o′) (h : o + length w ≤ length b) where
@@ -91,55 +93,56 @@ module _ (t : List ℕ) (from : ℕ) where
       byte : getD (over t (drop from t) i) (from + i) 0 ≡ getD (drop from t) i 0
       byte = ap (λ n. getD (p ++ drop i t) n 0) place ∙ getD-append-add p (drop i t) from 0 ∙ getD-drop i t from 0 ∙ ap (λ n. getD t n 0) turned ∙ sym (getD-drop from t i 0)
 
-  pub move-all : (l : List ℕ) (i count n : ℕ) → l ≡ over t (drop from t) i → i ≡ count → count ≡ min (n - from) 4097 → from ≤ n → n ≤ length t → Keeps t from n l count
-  move-all l i count n e z m h k = record { small = omega arith; bytes = ap (take count) (e ∙ ap (over t (drop from t)) z) ∙ take-at (take count (drop from t)) (drop count t) count size ∙ by (decLe (n - from) 4097) }
-    where
-      size : length (take count (drop from t)) ≡ count
-      size = length-take-le count (drop from t) (omega (arith, length-drop from t))
-
-      by : Dec (n - from ≤ 4097) → take count (drop from t) ≡ take 4097 (take (n - from) (drop from t))
-      by (yes q) =
-          let c : count ≡ n - from = omega arith in
-          let r : length (take (n - from) (drop from t)) ≤ 4097 = omega (arith, length-take (n - from) (drop from t)) in
-          ap (λ x. take x (drop from t)) c ∙ sym (take-all 4097 (take (n - from) (drop from t)) r)
-      by (no q) =
-          let c : count ≡ 4097 = omega (arith, q) in
-          ap (λ x. take x (drop from t)) c ∙ sym (take-take 4097 (n - from) (drop from t) (omega (arith, q)))
-
--- what is kept is the beginning of a line
-drop-take : (i : List ℕ) (at n : ℕ) → at ≤ n → n ≤ length i → drop at (take n i) ≡ take (n - at) (drop at i)
-drop-take i at n h k =
-    let e : n ≡ at + (n - at) = omega arith in
-    ap (λ x. drop at (take x i)) e ∙ ap (drop at) (take-add at (n - at) i) ∙ drop-at (take at i) (take (n - at) (drop at i)) at (length-take-le at i (omega arith))
-
-pub kept-begun : (i i′ : List ℕ) (at n r : ℕ) → Keeps i at n i′ r → r ≤ length i′ → at ≤ n → n ≤ length i → Open (drop at (take n i)) → newlineAt (take r i′) ≡ r
-kept-begun i i′ at n r k q h l o =
-    let p : Open (take 4097 (take (n - at) (drop at i))) = open-take 4097 (take (n - at) (drop at i)) (rw (drop-take i at n h l) at o) in
-    ap newlineAt (k .bytes) ∙ p ∙ ap length (sym (k .bytes)) ∙ length-take-le r i′ q
-
--- and what is owed for it is what was owed for the rest
-pub kept-owes : (i i′ : List ℕ) (at n r : ℕ) → Keeps i at n i′ r → at ≤ n → n ≤ length i → Open (drop at (take n i)) → (more : List ℕ) → output (take r i′ ++ more) ≡ output (drop at (take n i) ++ more)
-kept-owes i i′ at n r k h l o more =
-    let e : drop at (take n i) ≡ take (n - at) (drop at i) = drop-take i at n h l in
-    ap (λ x. output (x ++ more)) (k .bytes) ∙ cut-short (take (n - at) (drop at i)) more (rw e at o) ∙ ap (λ x. output (x ++ more)) (sym e)
-
-pub kept-open : (i i′ : List ℕ) (kept : ℕ) → take kept i′ ≡ take kept i → newlineAt (take kept i) ≡ kept → kept ≤ length i → Open (take kept i′)
-kept-open i i′ kept e b h = ap newlineAt e ∙ b ∙ sym (ap length e ∙ length-take-le kept i h)
-
--- a read after what is kept leaves it
-pub read-keeps : (b l : List ℕ) (a : ℕ) → a ≤ length b → take a (take a b ++ l) ≡ take a b
-read-keeps b l a h = take-at (take a b) l a (length-take-le a b h)
-
--- what a read that found bytes says
-pub reach : {g : Got} {n : ℕ} (kept len : ℕ) → g ≡ Bytes n → Reaches g kept len → (kept ≤ n) × (n ≤ len)
-reach kept len e r = rw e at r
+  pub move-all : (l : List ℕ) (i count : ℕ) → l ≡ over t (drop from t) i → i ≡ count → from + count ≤ length t → take count l ≡ take count (drop from t)
+  move-all l i count e z h = ap (take count) (e ∙ ap (over t (drop from t)) z) ∙ take-at (take count (drop from t)) (drop count t) count (length-take-le count (drop from t) (omega (arith, length-drop from t)))
 
 pub piece-within : {k n : ℕ} (i : List ℕ) → n ≤ length i → k ≤ length (take n i) → k ≤ n
 piece-within {k} {n} i h l = omega (arith, length-take-le n i h)
 
+-- what is kept of the rest: of the n bytes of i those from `at` on, r bytes at the beginning of i′
+module _ (i i′ : List ℕ) (at n r : ℕ) (full : Bool) (share : Share (n - at) full r) (moved : take r i′ ≡ take r (drop at i)) (h : at ≤ n) (k : n ≤ length i) where
+  abbrev rest : List ℕ
+  rest = take (n - at) (drop at i)
+
+  rest-is : drop at (take n i) ≡ rest
+  rest-is =
+      let e : n ≡ at + (n - at) = omega arith in
+      ap (λ x. drop at (take x i)) e ∙ ap (drop at) (take-add at (n - at) i) ∙ drop-at (take at i) rest at (length-take-le at i (omega arith))
+
+  short-is : full ≡ false → take r i′ ≡ take 4097 rest
+  short-is f = moved ∙ by (decLe (n - at) 4097)
+    where
+      by : Dec (n - at ≤ 4097) → take r (drop at i) ≡ take 4097 rest
+      by (yes q) =
+          let c : r ≡ n - at = omega (arith, share .short f) in
+          ap (λ x. take x (drop at i)) c ∙ sym (take-all 4097 rest (omega (arith, length-take (n - at) (drop at i))))
+      by (no q) =
+          let c : r ≡ 4097 = omega (arith, share .short f, q) in
+          ap (λ x. take x (drop at i)) c ∙ sym (take-take 4097 (n - at) (drop at i) (omega (arith, q)))
+
+  module _ (o : full ≡ false → Open (drop at (take n i))) where
+    pub kept-begun : full ≡ false → Open (take r i′)
+    kept-begun f =
+        let p : Open (take 4097 rest) = open-take 4097 rest (rw rest-is at (o f)) in
+        rw (short-is f) p
+
+    -- what is owed for it is what was owed for the rest
+    kept-owes : (more : List ℕ) → output (take r i′ ++ more) ≡ output (drop at (take n i) ++ more)
+    kept-owes more = by full refl ∙ ap (λ x. output (x ++ more)) (sym rest-is)
+      where
+        by : (b : Bool) → full ≡ b → output (take r i′ ++ more) ≡ output (rest ++ more)
+        by true f = ap (λ x. output (x ++ more)) (moved ∙ ap (λ x. take x (drop at i)) (share .whole f))
+        by false f = ap (λ x. output (x ++ more)) (short-is f) ∙ cut-short rest more (rw rest-is at (o f))
+
+    pub step-owes : (kept came : ℕ) {b b′ : List ℕ} {used put : ℕ} → n ≡ kept + came → Goes (take n i) b used b′ at put → Steps (take kept i) (take used b) (take came (drop kept i)) (take r i′) (take put b′)
+    step-owes kept came {b} {b′} {used} {put} e g = record { owes = λ more. ap (λ x. take put b′ ++ x) (kept-owes more) ∙ g .owes more ∙ ap (λ x. take used b ++ output (x ++ more)) (ap (λ x. take x i) e ∙ take-add kept came i) }
+
+-- where there is room for an answer no line is left, and where there is none something waits
+pub room-open : {p b b′ : List ℕ} {used at put m : ℕ} → Goes p b used b′ at put → m ≡ length b → ltb (m - put) 4100 ≡ false → Open (drop at p)
+room-open {put = put} {m = m} g e f = g .ends (omega (arith, ltb-false (m - put) 4100 f))
+
+pub room-waits : (m l used put : ℕ) → m ≡ l → used + 4100 ≤ l → ltb (m - put) 4100 ≡ true → 0 < put
+room-waits m l used put e h f = omega (arith, ltb-true (m - put) 4100 f)
+
 pub never : {A : Type 0} → false ≡ true → A
 never e = let z : _≡_ {A = ℕ} 0 1 = cc in absurd (omega arith)
-
-pub begin : (i b : List ℕ) → length b ≡ 65536 → Ready i b 0 0
-unfolding newlineAt
-begin i b e = record { small = omega arith; begun = refl; room = omega arith }

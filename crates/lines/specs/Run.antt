@@ -19,7 +19,7 @@ pub data Ran : List (List ℕ) → List (List ℕ) → List ℕ → List ℕ →
 -- At every moment: what was handed out, what waits, and the output owed for what is kept and whatever follows, are the
 -- output of all that came in and whatever follows.
 abbrev pub AllOwed : Type 0
-AllOwed = {pieces parts : List (List ℕ)} {kept waits : List ℕ} → Ran pieces parts kept waits → (more : List ℕ) → joined parts ++ (waits ++ output (kept ++ more)) ≡ output (joined pieces ++ more)
+AllOwed = (pieces parts : List (List ℕ)) (kept waits more : List ℕ) → Ran pieces parts kept waits → joined parts ++ (waits ++ output (kept ++ more)) ≡ output (joined pieces ++ more)
 
 -- At the end, where the bytes kept and those that wait are these: with waits′ handed out as the last part, all that was
 -- handed out is the output of all that came in.

@@ -32,5 +32,6 @@ pub record Goes (i b : List ℕ) (used : ℕ) (b′ : List ℕ) (at used′ : �
 
 -- Of a rest so many bytes are kept: all where there is no room, else at most 4,097.
 pub record Share (rest : ℕ) (full : Bool) (r : ℕ) : Type 0 where
+  pub within : r ≤ rest
   pub whole : full ≡ true → r ≡ rest
   pub short : full ≡ false → r ≡ min rest 4097

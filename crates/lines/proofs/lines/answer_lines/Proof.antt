@@ -1,24 +1,24 @@
 -- `lines::answer_lines` meets its contract. What waits, and then what is owed for the rest, is what it was.
 -- Assumes nothing.
-use Prim.Native.Nat.{ℕ, _+_, _-_, _≤_, _<_}
+use Prim.Native.Nat.{ℕ, _-_, _≤_}
 use mathlib.Core.Path.{_≡_, refl, _∙_}
 use mathlib.Core.List.{List, _++_}
 use native.Mathlib.Omega.{arith}
 use lib.ListN.{length, take, drop, length-drop}
-use Rattle.undname.specs.Output.{output}
-use Rattle.undname.proofs.Steps.{line-put, line-owes}
+use Rattle.lines.specs.Output.{output}
+use Rattle.lines.proofs.Steps.{line-put, line-owes}
 use borrow.Author.Needs.{needs}
-use Rattle.undname.proofs.lines.answer_lines.Statement.{statement}
-use Rattle.undname.proofs.lines.answer_lines.Tie as tie
+use Rattle.lines.proofs.lines.answer_lines.Statement.{statement}
+use Rattle.lines.proofs.lines.answer_lines.Tie as tie
 
 abbrev Inv-loop : tie.InvT-loop
-Inv-loop input from out₀ used table₀ text₀ at₀ put₀ out table text at put = (at ≤ length input) × (put ≤ length out₀) × (length out ≡ length out₀) × (length table ≡ length table₀) × (length text ≡ length text₀) × (from ≤ at) × (length out₀ < put + 4100 → from < at) × ((more : List ℕ) → take put out ++ output (drop at input ++ more) ≡ take used out₀ ++ output (drop from input ++ more))
+Inv-loop input out₀ used table₀ text₀ at₀ put₀ out table text at put = (at ≤ length input) × (put ≤ length out₀) × (length out ≡ length out₀) × (length table ≡ length table₀) × (length text ≡ length text₀) × ((more : List ℕ) → take put out ++ output (drop at input ++ more) ≡ take used out₀ ++ output (input ++ more))
 
 abbrev μ-loop : tie.MeasureT-loop
-μ-loop input from out₀ used table₀ text₀ at₀ put₀ out table text at put = length input - at
+μ-loop input out₀ used table₀ text₀ at₀ put₀ out table text at put = length input - at
 
 loop-holds : tie.Need-loop-holds Inv-loop μ-loop
-loop-holds c = (omega arith, omega arith, refl, refl, refl, omega arith, λ h. absurd (omega arith), λ more. refl)
+loop-holds c = (omega arith, omega arith, refl, refl, refl, λ more. refl)
 
 sub-loop : tie.Need-sub-loop Inv-loop μ-loop
 sub-loop c = search needs
@@ -50,7 +50,7 @@ loop-again c =
     let at-line-end = at-answer-line .before .before .before .before .before .before in
     let at-loop = at-line-end .before .before in
     let entry = at-loop .before .before .before .before .before in
-    (omega arith, omega (arith, (line-put (entry .args .input .now) (at-loop .loop .at) (at-line-end .line-end .result) (at-answer-line .answer-line .ensures) (omega arith) (at-line-end .line-end .ensures .2) (omega arith))), search needs, search needs, search needs, omega arith, λ h. omega arith, λ more. line-owes (entry .args .input .now) (at-loop .loop .at) (at-line-end .line-end .result) (at-answer-line .answer-line .ensures) (omega arith) (at-line-end .line-end .ensures .2) (omega arith) more ∙ at-loop .loop .inv .7 more)
+    (omega arith, omega (arith, (line-put (entry .args .input .now) (at-loop .loop .at) (at-line-end .line-end .result) (at-answer-line .answer-line .ensures) (omega arith) (at-line-end .line-end .ensures .2) (omega arith))), search needs, search needs, search needs, λ more. line-owes (entry .args .input .now) (at-loop .loop .at) (at-line-end .line-end .result) (at-answer-line .answer-line .ensures) (omega arith) (at-line-end .line-end .ensures .2) (omega arith) more ∙ at-loop .loop .inv .5 more)
 
 same-length : tie.Need-same-length Inv-loop μ-loop
 same-length c = search needs
@@ -62,7 +62,7 @@ same-length-3 : tie.Need-same-length-3 Inv-loop μ-loop
 same-length-3 c = search needs
 
 returns : tie.Need-returns Inv-loop μ-loop
-returns c = record { within = omega arith; fits = omega arith; owes = c .before .loop .inv .7; ends = λ h. absurd (omega arith); moves = c .before .loop .inv .6 }
+returns c = record { within = omega arith; fits = omega arith; owes = c .before .loop .inv .5; ends = λ h. absurd (omega arith) }
 
 same-length-4 : tie.Need-same-length-4 Inv-loop μ-loop
 same-length-4 c = search needs
@@ -78,7 +78,7 @@ returns-2 c =
     let at-line-end = c .before in
     let at-loop = at-line-end .before .before in
     let entry = at-loop .before .before .before .before .before in
-    record { within = omega arith; fits = omega arith; owes = at-loop .loop .inv .7; ends = λ h. omega (arith, at-line-end .line-end .ensures .2, length-drop (at-loop .loop .at) (entry .args .input .now)); moves = at-loop .loop .inv .6 }
+    record { within = omega arith; fits = omega arith; owes = at-loop .loop .inv .5; ends = λ h. omega (arith, at-line-end .line-end .ensures .2, length-drop (at-loop .loop .at) (entry .args .input .now)) }
 
 pub answer-lines-spec : {M : Type 1} → statement M
 answer-lines-spec =

@@ -1,10 +1,10 @@
 -- `lines::answer_rest` meets its contract.
 -- Assumes nothing.
 use native.Mathlib.Omega.{arith}
-use Rattle.undname.proofs.Steps.{rest-put, rest-owes, none-owes}
+use Rattle.lines.proofs.Steps.{rest-put, rest-owes, none-owes}
 use borrow.Author.Needs.{needs}
-use Rattle.undname.proofs.lines.answer_rest.Statement.{statement}
-use Rattle.undname.proofs.lines.answer_rest.Tie as tie
+use Rattle.lines.proofs.lines.answer_rest.Statement.{statement}
+use Rattle.lines.proofs.lines.answer_rest.Tie as tie
 
 returns : tie.Need-returns
 returns c = (omega arith, none-owes _ _ (c .if1 .taken))

@@ -6,10 +6,10 @@ use native.Mathlib.Omega.{arith}
 use lib.ListN.{length, drop}
 use borrow.Author.Tests.{eq-eqb, ne-eqb}
 use Rattle.scan.proofs.Laws.{split, past}
-use Rattle.undname.specs.Output.{newlineAt}
+use Rattle.lines.specs.Output.{newlineAt}
 use borrow.Author.Needs.{needs}
-use Rattle.undname.proofs.lines.line_end.Statement.{statement}
-use Rattle.undname.proofs.lines.line_end.Tie as tie
+use Rattle.lines.proofs.lines.line_end.Statement.{statement}
+use Rattle.lines.proofs.lines.line_end.Tie as tie
 
 abbrev Inv-loop : tie.InvT-loop
 Inv-loop input from i₀ i = (from ≤ i) × (i ≤ length input) × (from + newlineAt (drop from input) ≡ i + newlineAt (drop i input))

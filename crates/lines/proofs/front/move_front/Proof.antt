@@ -1,26 +1,20 @@
--- `lines::keep` meets its contract.
+-- `front::move_front` meets its contract.
 -- Assumes nothing.
 use Prim.Native.Nat.{_≤_, _-_}
 use mathlib.Core.Path.{_≡_}
 use native.Mathlib.Omega.{arith}
 use lib.ListN.{length, drop, length-set}
 use Rattle.text.proofs.Stores.{over}
-use Rattle.undname.proofs.Steps.{move-more, move-all}
+use Rattle.lines.proofs.Steps.{move-more, move-all}
 use borrow.Author.Needs.{needs}
-use Rattle.undname.proofs.lines.keep.Statement.{statement}
-use Rattle.undname.proofs.lines.keep.Tie as tie
+use Rattle.lines.proofs.front.move_front.Statement.{statement}
+use Rattle.lines.proofs.front.move_front.Tie as tie
 
 abbrev Inv-loop : tie.InvT-loop
-Inv-loop input₀ from n count i₀ input i = (i ≤ count) × (length input ≡ length input₀) × (input ≡ over input₀ (drop from input₀) i)
+Inv-loop input₀ from count i₀ input i = (i ≤ count) × (length input ≡ length input₀) × (input ≡ over input₀ (drop from input₀) i)
 
 abbrev μ-loop : tie.MeasureT-loop
-μ-loop input₀ from n count i₀ input i = count - i
-
-sub-lesser : tie.Need-sub-lesser Inv-loop μ-loop
-sub-lesser c = search needs
-
-lesser-requires : tie.Need-lesser-requires Inv-loop μ-loop
-lesser-requires c κs = search needs
+μ-loop input₀ from count i₀ input i = count - i
 
 loop-holds : tie.Need-loop-holds Inv-loop μ-loop
 loop-holds c = search needs
@@ -43,7 +37,7 @@ loop-less c = search needs
 loop-again : tie.Need-loop-again Inv-loop μ-loop
 loop-again c =
     let at-loop = c .before .before in
-    let entry = at-loop .before .before .before in
+    let entry = at-loop .before in
     (omega arith, simp length-set (at-loop .loop .inv .1), move-more (entry .args .input .now) (entry .args .from) _ (at-loop .loop .i) (at-loop .loop .inv .2) (omega arith))
 
 same-length : tie.Need-same-length Inv-loop μ-loop
@@ -52,18 +46,15 @@ same-length c = search needs
 returns : tie.Need-returns Inv-loop μ-loop
 returns c =
     let at-loop = c .before in
-    let at-lesser = at-loop .before in
-    let entry = at-lesser .before .before in
-    move-all (entry .args .input .now) (entry .args .from) _ (at-loop .loop .i) _ (entry .args .n) (at-loop .loop .inv .2) (omega arith) (at-lesser .lesser .ensures) (omega arith) (omega arith)
+    let entry = at-loop .before in
+    move-all (entry .args .input .now) (entry .args .from) _ (at-loop .loop .i) (entry .args .count) (at-loop .loop .inv .2) (omega arith) (omega arith)
 
-pub keep-spec : {M : Type 1} → statement M
-keep-spec =
+pub move-front-spec : {M : Type 1} → statement M
+move-front-spec =
     tie.close
     (tie.spec
     Inv-loop
     μ-loop
-    sub-lesser
-    lesser-requires
     loop-holds
     add-input
     slice-read-input
