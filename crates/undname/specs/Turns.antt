@@ -8,8 +8,8 @@ use Rattle.lines.specs.declared.Work.{Work}
 use Rattle.lines.specs.Output.{Open}
 use Rattle.undname.specs.declared.Got.{Got}
 use Rattle.undname.specs.declared.Got.the-variants.{Bytes, End, Failed}
-use Rattle.undname.specs.declared.Turn.{Turn}
-use Rattle.undname.specs.declared.Turn.the-variants.{On, Ended}
+use Rattle.undname.specs.declared.Next.{Next}
+use Rattle.undname.specs.declared.Next.the-variants.{On, Ended}
 
 -- Between two turns nothing waits, and what is kept of the input i is the beginning of a line, unless lines are left for want of room.
 pub record Between (i : List ℕ) (w : Work) : Type 0 where
@@ -25,10 +25,10 @@ Reaches End w len = w .full ≡ false
 Reaches Failed w len = Unit {0}
 
 -- where all that waits is written, the rest of the work stays
-abbrev pub Emptied : Turn → Work → Type 0
+abbrev pub Emptied : Next → Work → Type 0
 Emptied (On v) w = (v .kept ≡ w .kept) × (v .used ≡ 0) × (v .full ≡ w .full)
 Emptied Ended w = Unit {0}
 
-abbrev pub GoesOn : Turn → List ℕ → Type 0
+abbrev pub GoesOn : Next → List ℕ → Type 0
 GoesOn (On v) i = Between i v
 GoesOn Ended i = Unit {0}

@@ -25,7 +25,7 @@ enum Got {
 }
 
 // The work to go on with.
-enum Turn {
+enum Next {
     On(Work),
     Ended,
 }
@@ -53,7 +53,7 @@ fn read_after(input: &mut [u8], w: Work) -> Got
 }
 
 // Writes all that waits.
-fn hand_out(out: &[u8], w: Work) -> Turn
+fn hand_out(out: &[u8], w: Work) -> Next
     requires { ⌜ w .used ≤ length (now out) ⌝ }
     ensures { λ r. ⌜ Emptied r w ⌝ }
 {
@@ -64,13 +64,13 @@ fn hand_out(out: &[u8], w: Work) -> Turn
             STDERR_FILENO,
             b"undname: standard output can't be written\n",
         );
-        return Turn::Ended;
+        return Next::Ended;
     }
-    Turn::On(lines::handed(out, part, w))
+    Next::On(lines::handed(out, part, w))
 }
 
 // One read, and all that can be answered then.
-fn turn(input: &mut [u8], out: &mut [u8], table: &mut [u32], text: &mut [u8], w: Work) -> Turn
+fn turn(input: &mut [u8], out: &mut [u8], table: &mut [u32], text: &mut [u8], w: Work) -> Next
     requires { ⌜ length (now input) ≡ 65536 ⌝ }
     requires { ⌜ length (now out) ≡ 65536 ⌝ }
     requires { ⌜ length (now table) ≡ 12288 ⌝ }
@@ -81,15 +81,15 @@ fn turn(input: &mut [u8], out: &mut [u8], table: &mut [u32], text: &mut [u8], w:
     let got = read_after(input, w);
     match got {
         Got::Bytes(came) => {
-            let next = lines::step(input, came, out, table, text, w);
-            hand_out(out, next)
+            let after = lines::step(input, came, out, table, text, w);
+            hand_out(out, after)
         }
         Got::End => {
             let last = lines::finish(input, out, table, text, w);
             hand_out(out, last);
-            Turn::Ended
+            Next::Ended
         }
-        Got::Failed => Turn::Ended,
+        Got::Failed => Next::Ended,
     }
 }
 
@@ -109,8 +109,8 @@ fn run(input: &mut [u8], out: &mut [u8], table: &mut [u32], text: &mut [u8])
     while 0 < turns {
         let done = turn(input, out, table, text, w);
         match done {
-            Turn::On(next) => w = next,
-            Turn::Ended => return,
+            Next::On(v) => w = v,
+            Next::Ended => return,
         }
         turns -= 1;
     }
