@@ -13,9 +13,6 @@ use farthingmoss::demangle;
 use text::buffer::put;
 use text::buffer::put_bytes;
 
-// The longest answer: `ok`, tab, a text that fills its room, newline.
-pub const LONGEST: usize = 4_100;
-
 const FLAGS: u32 = 0;
 
 const DEPTH: u32 = 200;

@@ -10,7 +10,7 @@ ghost use Rattle.lines.specs.Run.{AllAnswered};
 mod front;
 mod lines;
 
-use answer_line::LONGEST;
+use lines::LONGEST;
 
 // How many bytes of the input's beginning are kept, how many of the output wait, and whether a step stopped for want of room.
 pub struct Work {
@@ -58,7 +58,7 @@ pub fn finish(input: &[u8], out: &mut [u8], table: &mut [u32], text: &mut [u8], 
     requires { ⌜ w .used + 4100 ≤ length (now out) ⌝ }
     requires { ⌜ length (now table) ≡ 12288 ⌝ }
     requires { ⌜ length (now text) ≡ 4096 ⌝ }
-    ensures { λ r. ⌜ r .used ≤ length (now (out .exit)) ⌝ }
+    ensures { λ r. ⌜ (r .kept ≡ 0) × (r .used ≤ length (now (out .exit))) ⌝ }
     ensures { λ r. ⌜ take (r .used) (now (out .exit)) ≡ take (w .used) (now (out .entry)) ++ output (take (w .kept) (now (input .entry))) ⌝ }
     ensures { λ r. ⌜ AllAnswered (take (w .kept) (now (input .entry))) (take (w .used) (now (out .entry))) (take (r .used) (now (out .exit))) ⌝ }
 {

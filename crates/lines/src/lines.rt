@@ -5,8 +5,10 @@ ghost use Prim.Native.Nat.{_+_, _≤_};
 ghost use lib.ListN.{length, take, drop};
 ghost use Rattle.lines.specs.Output.{newlineAt, Open, output};
 ghost use Rattle.lines.specs.Steps.{Goes};
-use answer_line::LONGEST;
 use answer_line::answer_line;
+
+// The longest answer: `ok`, tab, a text that fills its room, newline.
+pub const LONGEST: usize = 4_100;
 
 // Up to where the lines are answered, and how many bytes of the output wait.
 pub struct Place {

@@ -13,7 +13,7 @@ use Rattle.undname.specs.declared.Got.{Got}
 use Rattle.undname.specs.declared.Got.the-variants.{Bytes, End}
 use Rattle.undname.specs.declared.Next.{Next}
 use Rattle.undname.specs.declared.Next.the-variants.{On, Ended}
-use Rattle.undname.specs.Turns.{Between, Reaches, Emptied, GoesOn}
+use Rattle.undname.specs.Turns.{Between, Reaches, Emptied, Cleared, GoesOn}
 
 -- a read after what is kept leaves it
 pub read-keeps : (b l : List ℕ) (a : ℕ) → a ≤ length b → take a (take a b ++ l) ≡ take a b
@@ -39,6 +39,11 @@ goes-on (On v) {i} e r = record {
   small = λ f. omega (arith, e .0, r .small (sym (e .2) ∙ f));
 }
 goes-on Ended e r = tt
+
+-- the end, and then the same
+pub cleared : (n : Next) (w : Work) → Emptied n w → w .kept ≡ 0 → Cleared n
+cleared (On v) w e k = (e .0 ∙ k, e .1)
+cleared Ended w e k = tt
 
 pub going : {n : Next} {v : Work} (i : List ℕ) → n ≡ On v → GoesOn n i → Between i v
 going i e r = rw e at r

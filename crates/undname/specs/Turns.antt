@@ -29,6 +29,11 @@ abbrev pub Emptied : Next → Work → Type 0
 Emptied (On v) w = (v .kept ≡ w .kept) × (v .used ≡ 0) × (v .full ≡ w .full)
 Emptied Ended w = Unit {0}
 
+-- after the end nothing is kept and nothing waits
+abbrev pub Cleared : Next → Type 0
+Cleared (On v) = (v .kept ≡ 0) × (v .used ≡ 0)
+Cleared Ended = Unit {0}
+
 abbrev pub GoesOn : Next → List ℕ → Type 0
 GoesOn (On v) i = Between i v
 GoesOn Ended i = Unit {0}

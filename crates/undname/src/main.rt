@@ -1,10 +1,10 @@
 // The symbols of a log, a line of standard input each. For each it writes a line: `ok`, tab, text, or `no`, tab, number, tab, offset.
 ghost use mathlib.Core.Bool.{false};
 ghost use mathlib.Core.Path.{_≡_};
-ghost use Prim.Native.Nat.{_≤_, _<_};
+ghost use Prim.Native.Nat.{_+_, _≤_, _<_};
 ghost use lib.ListN.{length, take};
-ghost use Rattle.undname.specs.Turns.{Between, Reaches, Emptied, GoesOn};
-
+ghost use Rattle.lines.specs.Output.{Open};
+ghost use Rattle.undname.specs.Turns.{Between, Reaches, Emptied, Cleared, GoesOn};
 use libc::STDERR_FILENO;
 use libc::STDIN_FILENO;
 use libc::STDOUT_FILENO;
@@ -69,6 +69,19 @@ fn hand_out(out: &[u8], w: Work) -> Next
     Next::On(lines::handed(out, part, w))
 }
 
+// At the end of the input: all is answered and written, and nothing is kept.
+fn last_turn(input: &[u8], out: &mut [u8], table: &mut [u32], text: &mut [u8], w: Work) -> Next
+    requires { ⌜ w .kept ≤ length (now input) ⌝ }
+    requires { ⌜ Open (take (w .kept) (now input)) ⌝ }
+    requires { ⌜ w .used + 4100 ≤ length (now out) ⌝ }
+    requires { ⌜ length (now table) ≡ 12288 ⌝ }
+    requires { ⌜ length (now text) ≡ 4096 ⌝ }
+    ensures { λ r. ⌜ Cleared r ⌝ }
+{
+    let last = lines::finish(input, out, table, text, w);
+    hand_out(out, last)
+}
+
 // One read, and all that can be answered then.
 fn turn(input: &mut [u8], out: &mut [u8], table: &mut [u32], text: &mut [u8], w: Work) -> Next
     requires { ⌜ length (now input) ≡ 65536 ⌝ }
@@ -85,8 +98,7 @@ fn turn(input: &mut [u8], out: &mut [u8], table: &mut [u32], text: &mut [u8], w:
             hand_out(out, after)
         }
         Got::End => {
-            let last = lines::finish(input, out, table, text, w);
-            hand_out(out, last);
+            last_turn(input, out, table, text, w);
             Next::Ended
         }
         Got::Failed => Next::Ended,

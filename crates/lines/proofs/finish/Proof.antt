@@ -1,6 +1,6 @@
 -- `finish` meets its contract.
 -- Assumes nothing.
-use mathlib.Core.Path.{sym}
+use mathlib.Core.Path.{sym, refl}
 use lib.Seq.{length-take-le}
 use Rattle.lines.proofs.Runs.{all-answered}
 use borrow.Author.Needs.{needs}
@@ -27,7 +27,7 @@ same-length-3 c = search needs
 returns : tie.Need-returns
 returns c =
     let at-answer-rest = c .before .before .before .before .before .before in
-    (at-answer-rest .answer-rest .ensures .0, (at-answer-rest .answer-rest .ensures .1, all-answered _ _ _ (at-answer-rest .answer-rest .ensures .1)))
+    ((refl, at-answer-rest .answer-rest .ensures .0), (at-answer-rest .answer-rest .ensures .1, all-answered _ _ _ (at-answer-rest .answer-rest .ensures .1)))
 
 pub finish-spec : {M : Type 1} → statement M
 finish-spec =

@@ -60,15 +60,16 @@ returns c =
     let at-share = at-move-front .before .before in
     let at-answer-lines = at-share .before .before .before .before .before .before .before in
     let entry = at-answer-lines .before .before .before .before .before .before .before .before .before in
-    let h = (piece-within (entry .args .input .now) (entry .pre .0) (at-answer-lines .answer-lines .ensures .within)) in
-    (step-owes (entry .args .input .now) _ (at-answer-lines .answer-lines .result .at) (entry .args .w .kept + entry .args .came) (at-share .share .result) _ (at-share .share .ensures) (at-move-front .move-front .ensures) h (entry .pre .0) (room-open (at-answer-lines .answer-lines .ensures) (at-answer-lines .answer-lines .kept .1 .0)) _ _ refl (at-answer-lines .answer-lines .ensures),
-    record {
-      within = omega (arith, at-share .share .ensures .within, h, entry .pre .0, at-move-front .move-front .kept);
-      fits = omega (arith, at-answer-lines .answer-lines .ensures .fits, at-answer-lines .answer-lines .kept);
-      begun = kept-begun (entry .args .input .now) _ (at-answer-lines .answer-lines .result .at) (entry .args .w .kept + entry .args .came) (at-share .share .result) _ (at-share .share .ensures) (at-move-front .move-front .ensures) h (entry .pre .0) (room-open (at-answer-lines .answer-lines .ensures) (at-answer-lines .answer-lines .kept .1 .0));
-      small = λ f. omega (arith, at-share .share .ensures .short f);
-      waits = room-waits _ _ (entry .args .w .used) _ (at-answer-lines .answer-lines .kept .1 .0) (entry .pre .1 .0);
-    })
+    let h = (piece-within (entry .args .input .now) (entry .pre .0) (at-answer-lines .answer-lines .ensures .within)) in (
+      step-owes (entry .args .input .now) _ (at-answer-lines .answer-lines .result .at) (entry .args .w .kept + entry .args .came) (at-share .share .result) _ (at-share .share .ensures) (at-move-front .move-front .ensures) h (entry .pre .0) (room-open (at-answer-lines .answer-lines .ensures) (at-answer-lines .answer-lines .kept .1 .0)) _ _ refl (at-answer-lines .answer-lines .ensures),
+      record {
+        within = omega (arith, at-share .share .ensures .within, h, entry .pre .0, at-move-front .move-front .kept);
+        fits = omega (arith, at-answer-lines .answer-lines .ensures .fits, at-answer-lines .answer-lines .kept);
+        begun = kept-begun (entry .args .input .now) _ (at-answer-lines .answer-lines .result .at) (entry .args .w .kept + entry .args .came) (at-share .share .result) _ (at-share .share .ensures) (at-move-front .move-front .ensures) h (entry .pre .0) (room-open (at-answer-lines .answer-lines .ensures) (at-answer-lines .answer-lines .kept .1 .0));
+        small = λ f. omega (arith, at-share .share .ensures .short f);
+        waits = room-waits _ _ (entry .args .w .used) _ (at-answer-lines .answer-lines .kept .1 .0) (entry .pre .1 .0);
+      },
+    )
 
 pub step-spec : {M : Type 1} → statement M
 step-spec =

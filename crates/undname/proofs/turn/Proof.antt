@@ -28,15 +28,12 @@ hand-out-requires c κs = search needs
 enum-told : tie.Need-enum-told
 enum-told c = search needs
 
-finish-requires : tie.Need-finish-requires
-finish-requires c κs =
+last-turn-requires : tie.Need-last-turn-requires
+last-turn-requires c κs =
     let at-enum-told = c .before .before .before .before in
     let at-read-after = at-enum-told .before .before .before .before in
     let entry = at-read-after .before .before .before .before .before .before in
     (omega (arith, (entry .pre .1 .1 .1 .1) .within, at-read-after .read-after .kept .0), (still-open (entry .args .input .now) (at-read-after .read-after .last .0) (entry .args .w .kept) (at-read-after .read-after .ensures .1) ((entry .pre .1 .1 .1 .1) .begun (ended (entry .args .w) (length (entry .args .input .now)) (at-enum-told .enum-told .given .1) (at-read-after .read-after .ensures .0))), ((omega (arith, (entry .pre .1 .1 .1 .1) .nothing, entry .pre .1 .0)), (entry .pre .1 .1 .0, entry .pre .1 .1 .1 .0))))
-
-hand-out-requires-2 : tie.Need-hand-out-requires-2
-hand-out-requires-2 c κs = search needs
 
 enum-told-2 : tie.Need-enum-told-2
 enum-told-2 c = search needs
@@ -88,8 +85,7 @@ turn-spec =
     step-requires
     hand-out-requires
     enum-told
-    finish-requires
-    hand-out-requires-2
+    last-turn-requires
     enum-told-2
     same-length
     same-length-2
