@@ -1,3 +1,1 @@
-pub mod Splits
-pub mod Answers
-pub mod Steps
+pub mod Turning

@@ -1,17 +1,14 @@
 // The symbols of a log, a line of standard input each. For each it writes a line: `ok`, tab, text, or `no`, tab, number, tab, offset.
-ghost use mathlib.Core.Bool.{true};
+ghost use mathlib.Core.Bool.{false};
 ghost use mathlib.Core.Path.{_≡_};
-ghost use Prim.Native.Nat.{_+_, _≤_};
-ghost use lib.ListN.{length, take, drop};
-ghost use Rattle.undname.specs.Output.{Open, Reaches, Ready};
-
-mod answer;
-mod lines;
-
-use answer::LONGEST;
+ghost use Prim.Native.Nat.{_+_, _≤_, _<_};
+ghost use lib.ListN.{length, take};
+ghost use Rattle.lines.specs.Output.{Open};
+ghost use Rattle.undname.specs.Turns.{Between, Reaches, Emptied, Cleared, GoesOn};
 use libc::STDERR_FILENO;
 use libc::STDIN_FILENO;
 use libc::STDOUT_FILENO;
+use lines::Work;
 
 // A table of 1,024 nodes.
 const CELLS: usize = 12_288;
@@ -20,26 +17,30 @@ const TEXT: usize = 4_096;
 
 const PIECE: usize = 65_536;
 
-// Between two reads: how many bytes of a line stand at the input's beginning, how many of the output wait, and whether there is more to do.
-struct Work {
-    kept: usize,
-    used: usize,
-    on: bool,
-}
-
-// How many bytes the input has then.
+// How many bytes came.
 enum Got {
     Bytes(usize),
     End,
     Failed,
 }
 
-// Reads once, after what is kept.
-fn read_after(input: &mut [u8], kept: usize) -> Got
-    requires { ⌜ kept ≤ length (now input) ⌝ }
-    ensures { λ r. ⌜ Reaches r kept (length (now (input .entry))) ⌝ }
-    ensures { λ _. ⌜ take kept (now (input .exit)) ≡ take kept (now (input .entry)) ⌝ }
+// The work to go on with.
+enum Next {
+    On(Work),
+    Ended,
+}
+
+// Reads once, after what is kept, unless lines are left there; a read into no room would look like the end.
+fn read_after(input: &mut [u8], w: Work) -> Got
+    requires { ⌜ w .kept ≤ length (now input) ⌝ }
+    requires { ⌜ (w .full ≡ false → w .kept < length (now input)) ⌝ }
+    ensures { λ r. ⌜ Reaches r w (length (now (input .entry))) ⌝ }
+    ensures { λ _. ⌜ take (w .kept) (now (input .exit)) ≡ take (w .kept) (now (input .entry)) ⌝ }
 {
+    if w.full {
+        return Got::Bytes(0);
+    }
+    let kept = w.kept;
     let got = libc::read(STDIN_FILENO, &mut input[kept..]);
     if got < 0 {
         io::write_all(STDERR_FILENO, b"undname: standard input can't be read\n");
@@ -48,105 +49,59 @@ fn read_after(input: &mut [u8], kept: usize) -> Got
     if got == 0 {
         return Got::End;
     }
-    Got::Bytes(kept + io::count(got, &input[kept..]))
+    Got::Bytes(io::count(got, &input[kept..]))
 }
 
-// Writes the output that waits.
-fn flush(out: &[u8], used: usize) -> bool
-    requires { ⌜ used ≤ length (now out) ⌝ }
+// Writes all that waits.
+fn hand_out(out: &[u8], w: Work) -> Next
+    requires { ⌜ w .used ≤ length (now out) ⌝ }
+    ensures { λ r. ⌜ Emptied r w ⌝ }
 {
-    let is_written = io::write_all(STDOUT_FILENO, &out[..used]);
-    if !is_written {
+    let used = w.used;
+    let part = &out[..used];
+    if !io::write_all(STDOUT_FILENO, part) {
         io::write_all(
             STDERR_FILENO,
             b"undname: standard output can't be written\n",
         );
+        return Next::Ended;
     }
-    is_written
+    Next::On(lines::handed(out, part, w))
 }
 
-// Answers every line that ends in the input.
-fn answer_piece(
-    input: &[u8],
-    out: &mut [u8],
-    used: usize,
-    table: &mut [u32],
-    text: &mut [u8],
-) -> Work
-    requires { ⌜ used + 4100 ≤ length (now out) ⌝ }
+// At the end of the input: all is answered and written, and nothing is kept.
+fn last_turn(input: &[u8], out: &mut [u8], table: &mut [u32], text: &mut [u8], w: Work) -> Next
+    requires { ⌜ w .kept ≤ length (now input) ⌝ }
+    requires { ⌜ Open (take (w .kept) (now input)) ⌝ }
+    requires { ⌜ w .used + 4100 ≤ length (now out) ⌝ }
     requires { ⌜ length (now table) ≡ 12288 ⌝ }
     requires { ⌜ length (now text) ≡ 4096 ⌝ }
-    ensures { λ r. ⌜ r .kept ≤ length (now (input .entry)) ⌝ }
-    ensures { λ r. ⌜ (r .on ≡ true → Open (drop (r .kept) (now (input .entry)))) ⌝ }
-    ensures { λ r. ⌜ r .used + 4100 ≤ length (now (out .exit)) ⌝ }
+    ensures { λ r. ⌜ Cleared r ⌝ }
 {
-    let mut at = 0;
-    let mut put = used;
-    loop {
-        let place = lines::answer_lines(input, at, out, put, table, text);
-        at = place.at;
-        put = place.used;
-        if LONGEST <= out.len() - put {
-            return Work {
-                kept: at,
-                used: put,
-                on: true,
-            };
-        }
-        if !flush(out, put) {
-            return Work {
-                kept: at,
-                used: 0,
-                on: false,
-            };
-        }
-        put = 0;
-    }
+    let last = lines::finish(input, out, table, text, w);
+    hand_out(out, last)
 }
 
 // One read, and all that can be answered then.
-fn turn(
-    input: &mut [u8],
-    kept: usize,
-    out: &mut [u8],
-    used: usize,
-    table: &mut [u32],
-    text: &mut [u8],
-) -> Work
+fn turn(input: &mut [u8], out: &mut [u8], table: &mut [u32], text: &mut [u8], w: Work) -> Next
     requires { ⌜ length (now input) ≡ 65536 ⌝ }
-    requires { ⌜ Ready (now input) (now out) kept used ⌝ }
+    requires { ⌜ length (now out) ≡ 65536 ⌝ }
     requires { ⌜ length (now table) ≡ 12288 ⌝ }
     requires { ⌜ length (now text) ≡ 4096 ⌝ }
-    ensures { λ r. ⌜ (r .on ≡ true → Ready (now (input .exit)) (now (out .exit)) (r .kept) (r .used)) ⌝ }
+    requires { ⌜ Between (now input) w ⌝ }
+    ensures { λ r. ⌜ GoesOn r (now (input .exit)) ⌝ }
 {
-    let got = read_after(input, kept);
+    let got = read_after(input, w);
     match got {
-        Got::Bytes(n) => {
-            let w = answer_piece(&input[..n], out, used, table, text);
-            let at = w.kept;
-            Work {
-                kept: lines::keep(input, at, n),
-                used: w.used,
-                on: w.on,
-            }
+        Got::Bytes(came) => {
+            let after = lines::step(input, came, out, table, text, w);
+            hand_out(out, after)
         }
         Got::End => {
-            let end = lines::answer_rest(&input[..kept], out, used, table, text);
-            flush(out, end);
-            Work {
-                kept: 0,
-                used: 0,
-                on: false,
-            }
+            last_turn(input, out, table, text, w);
+            Next::Ended
         }
-        Got::Failed => {
-            flush(out, used);
-            Work {
-                kept: 0,
-                used: 0,
-                on: false,
-            }
-        }
+        Got::Failed => Next::Ended,
     }
 }
 
@@ -158,15 +113,17 @@ fn run(input: &mut [u8], out: &mut [u8], table: &mut [u32], text: &mut [u8])
     requires { ⌜ length (now text) ≡ 4096 ⌝ }
 {
     let mut turns = u64::MAX;
-    let mut kept = 0;
-    let mut used = 0;
+    let mut w = Work {
+        kept: 0,
+        used: 0,
+        full: false,
+    };
     while 0 < turns {
-        let w = turn(input, kept, out, used, table, text);
-        if !w.on {
-            return;
+        let done = turn(input, out, table, text, w);
+        match done {
+            Next::On(v) => w = v,
+            Next::Ended => return,
         }
-        kept = w.kept;
-        used = w.used;
         turns -= 1;
     }
 }

@@ -1,10 +1,13 @@
 -- `read_after` meets its contract.
 -- Assumes nothing.
 use native.Mathlib.Omega.{arith}
-use Rattle.undname.proofs.Steps.{read-keeps}
+use Rattle.undname.proofs.Turning.{read-keeps}
 use borrow.Author.Needs.{needs}
 use Rattle.undname.proofs.read_after.Statement.{statement}
 use Rattle.undname.proofs.read_after.Tie as tie
+
+returns : tie.Need-returns
+returns c = search needs
 
 sub-read : tie.Need-sub-read
 sub-read c = search needs
@@ -27,18 +30,19 @@ write-all-requires c κs = search needs
 same-length : tie.Need-same-length
 same-length c = search needs
 
-returns : tie.Need-returns
-returns c =
-    let entry = c .before .before .before .before .before .before .before .before in
-    (tt, read-keeps (entry .args .input .now) _ (entry .args .kept) (entry .pre))
+returns-2 : tie.Need-returns-2
+returns-2 c =
+    let entry = c .before .before .before .before .before .before .before .before .before in
+    (tt, (read-keeps (entry .args .input .now) _ (entry .args .w .kept) (entry .pre .0)))
 
 same-length-2 : tie.Need-same-length-2
 same-length-2 c = search needs
 
-returns-2 : tie.Need-returns-2
-returns-2 c =
-    let entry = c .before .before .before .before .before .before .before in
-    (tt, read-keeps (entry .args .input .now) _ (entry .args .kept) (entry .pre))
+returns-3 : tie.Need-returns-3
+returns-3 c =
+    let at-if1 = c .before .before .before .before .before .before in
+    let entry = at-if1 .before .before in
+    (at-if1 .if1 .left, (read-keeps (entry .args .input .now) _ (entry .args .w .kept) (entry .pre .0)))
 
 sub-count : tie.Need-sub-count
 sub-count c = search needs
@@ -52,21 +56,19 @@ part-count-end c = search needs
 count-requires : tie.Need-count-requires
 count-requires c κs = search needs
 
-add-t17 : tie.Need-add-t17
-add-t17 c = search needs
-
 same-length-3 : tie.Need-same-length-3
 same-length-3 c = search needs
 
-returns-3 : tie.Need-returns-3
-returns-3 c =
-    let entry = c .before .before .before .before .before .before .before .before .before .before in
-    ((omega arith, omega (arith, c .count .ensures .0 .0)), read-keeps (entry .args .input .now) _ (entry .args .kept) (entry .pre))
+returns-4 : tie.Need-returns-4
+returns-4 c =
+    let entry = c .before .before .before .before .before .before .before .before .before .before .before in
+    (omega (arith, c .count .ensures .0 .0), (read-keeps (entry .args .input .now) _ (entry .args .w .kept) (entry .pre .0)))
 
 pub read-after-spec : {M : Type 1} → statement M
 read-after-spec =
     tie.close
     (tie.spec
+    returns
     sub-read
     part-read-start
     part-read-end
@@ -74,13 +76,12 @@ read-after-spec =
     slice-aggregate-write-all
     write-all-requires
     same-length
-    returns
-    same-length-2
     returns-2
+    same-length-2
+    returns-3
     sub-count
     part-count-start
     part-count-end
     count-requires
-    add-t17
     same-length-3
-    returns-3)
+    returns-4)

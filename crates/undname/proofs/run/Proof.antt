@@ -1,25 +1,34 @@
 -- `run` meets its contract.
 -- Assumes nothing.
 use mathlib.Core.Path.{_≡_, refl}
-use borrow.Author.Tests.{not-false}
+use native.Mathlib.Omega.{arith}
 use lib.ListN.{length}
-use Rattle.undname.specs.Output.{Ready}
-use Rattle.undname.proofs.Steps.{begin}
+use Rattle.undname.specs.Turns.{Between}
+use Rattle.undname.proofs.Turning.{going, begin}
 use borrow.Author.Needs.{needs}
 use Rattle.undname.proofs.run.Statement.{statement}
 use Rattle.undname.proofs.run.Tie as tie
 
 abbrev Inv-loop : tie.InvT-loop
-Inv-loop input₀ out₀ table₀ text₀ turns₀ kept₀ used₀ input out table text turns kept used = (length input ≡ length input₀) × (length out ≡ length out₀) × (length table ≡ length table₀) × (length text ≡ length text₀) × Ready input out kept used
+Inv-loop input₀ out₀ table₀ text₀ turns₀ w₀ input out table text turns w = (length input ≡ length input₀) × (length out ≡ length out₀) × (length table ≡ length table₀) × (length text ≡ length text₀) × Between input w
 
 abbrev μ-loop : tie.MeasureT-loop
-μ-loop input₀ out₀ table₀ text₀ turns₀ kept₀ used₀ input out table text turns kept used = turns
+μ-loop input₀ out₀ table₀ text₀ turns₀ w₀ input out table text turns w = turns
 
 loop-holds : tie.Need-loop-holds Inv-loop μ-loop
-loop-holds c = (refl, refl, refl, refl, begin _ _ (c .before .before .before .before .pre .1 .0))
+loop-holds c = (refl, refl, refl, refl, begin _)
 
 turn-requires : tie.Need-turn-requires Inv-loop μ-loop
-turn-requires c κs = search needs
+turn-requires c κs =
+    let at-loop = c .before .before .before .before .before in
+    let entry = at-loop .before .before .before .before .before in
+    (omega (arith, at-loop .loop .inv .0, entry .pre .0), (omega (arith, at-loop .loop .inv .1, entry .pre .1 .0), (omega (arith, at-loop .loop .inv .2, entry .pre .1 .1 .0), (omega (arith, at-loop .loop .inv .3, entry .pre .1 .1 .1), at-loop .loop .inv .4))))
+
+enum-known-done : tie.Need-enum-known-done Inv-loop μ-loop
+enum-known-done c = search needs
+
+enum-told : tie.Need-enum-told Inv-loop μ-loop
+enum-told c = search needs
 
 same-length : tie.Need-same-length Inv-loop μ-loop
 same-length c = search needs
@@ -44,8 +53,9 @@ loop-less c = search needs
 
 loop-again : tie.Need-loop-again Inv-loop μ-loop
 loop-again c =
-    let at-turn = c .before .before .before .before .before .before .before .before .before .before in
-    (search needs, search needs, search needs, search needs, at-turn .turn .ensures (not-false _ (c .if1 .left)))
+    let at-done = c .before in
+    let at-turn = at-done .before .before .before .before .before .before .before .before .before .before in
+    (search needs, search needs, search needs, search needs, going _ (at-done .done .given .1) (at-turn .turn .ensures))
 
 same-length-5 : tie.Need-same-length-5 Inv-loop μ-loop
 same-length-5 c = search needs
@@ -70,6 +80,8 @@ run-spec =
     μ-loop
     loop-holds
     turn-requires
+    enum-known-done
+    enum-told
     same-length
     same-length-2
     same-length-3

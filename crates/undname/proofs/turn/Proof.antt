@@ -1,71 +1,42 @@
 -- `turn` meets its contract.
 -- Assumes nothing.
-use mathlib.Core.Path.{sym}
 use native.Mathlib.Omega.{arith}
 use lib.ListN.{length}
-use lib.Seq.{length-take-le}
-use Rattle.undname.proofs.Steps.{kept-begun, kept-open, reach, piece-within, never}
+use Rattle.undname.proofs.Turning.{still-open, reach, ended, goes-on}
 use borrow.Author.Needs.{needs}
 use Rattle.undname.proofs.turn.Statement.{statement}
 use Rattle.undname.proofs.turn.Tie as tie
 
 read-after-requires : tie.Need-read-after-requires
-read-after-requires c κs = search needs
+read-after-requires c κs =
+    let entry = c .before .before .before .before .before in
+    ((entry .pre .1 .1 .1 .1) .within, λ f. omega (arith, (entry .pre .1 .1 .1 .1) .small f, entry .pre .0))
 
 enum-known-got : tie.Need-enum-known-got
 enum-known-got c = search needs
 
-slice-reshare-prefix-answer-piece : tie.Need-slice-reshare-prefix-answer-piece
-slice-reshare-prefix-answer-piece c =
-    let at-got = c .before in
+step-requires : tie.Need-step-requires
+step-requires c κs =
+    let at-got = c .before .before .before .before .before in
     let at-read-after = at-got .before .before .before .before in
     let entry = at-read-after .before .before .before .before .before .before in
-    omega (arith, (reach (entry .args .kept) (length (entry .args .input .now)) (at-got .got .given .1) (at-read-after .read-after .ensures .0)) .1, at-read-after .read-after .kept .0)
+    (omega (arith, (reach (entry .args .w) (length (entry .args .input .now)) (at-got .got .given .1) (at-read-after .read-after .ensures .0)), at-read-after .read-after .kept .0), ((omega (arith, (entry .pre .1 .1 .1 .1) .nothing, entry .pre .1 .0)), (entry .pre .1 .1 .0, entry .pre .1 .1 .1 .0)))
 
-slice-aggregate-answer-piece : tie.Need-slice-aggregate-answer-piece
-slice-aggregate-answer-piece c =
-    let at-got = c .before .before in
-    let at-read-after = at-got .before .before .before .before in
-    let entry = at-read-after .before .before .before .before .before .before in
-    sym (length-take-le _ _ (omega (arith, (reach (entry .args .kept) (length (entry .args .input .now)) (at-got .got .given .1) (at-read-after .read-after .ensures .0)) .1, at-read-after .read-after .kept .0)))
-
-answer-piece-requires : tie.Need-answer-piece-requires
-answer-piece-requires c κs = search needs
-
-keep-requires : tie.Need-keep-requires
-keep-requires c κs =
-    let at-answer-piece = c .before .before .before .before .before .before .before in
-    let at-got = at-answer-piece .before .before .before .before .before .before in
-    let at-read-after = at-got .before .before .before .before in
-    let entry = at-read-after .before .before .before .before .before .before in
-    ((piece-within (at-read-after .read-after .last .0) (omega (arith, (reach (entry .args .kept) (length (entry .args .input .now)) (at-got .got .given .1) (at-read-after .read-after .ensures .0)) .1, at-read-after .read-after .kept .0)) (at-answer-piece .answer-piece .ensures .0)), (omega (arith, (reach (entry .args .kept) (length (entry .args .input .now)) (at-got .got .given .1) (at-read-after .read-after .ensures .0)) .1, at-read-after .read-after .kept .0)))
+hand-out-requires : tie.Need-hand-out-requires
+hand-out-requires c κs = search needs
 
 enum-told : tie.Need-enum-told
 enum-told c = search needs
 
-slice-reshare-prefix-answer-rest : tie.Need-slice-reshare-prefix-answer-rest
-slice-reshare-prefix-answer-rest c = search needs
-
-slice-aggregate-answer-rest : tie.Need-slice-aggregate-answer-rest
-slice-aggregate-answer-rest c =
-    let at-read-after = c .before .before .before .before .before in
+last-turn-requires : tie.Need-last-turn-requires
+last-turn-requires c κs =
+    let at-enum-told = c .before .before .before .before in
+    let at-read-after = at-enum-told .before .before .before .before in
     let entry = at-read-after .before .before .before .before .before .before in
-    sym (length-take-le _ _ (omega (arith, entry .pre .1 .0 .small, entry .pre .0, at-read-after .read-after .kept .0)))
-
-answer-rest-requires : tie.Need-answer-rest-requires
-answer-rest-requires c κs =
-    let at-read-after = c .before .before .before .before .before .before .before .before in
-    let entry = at-read-after .before .before .before .before .before .before in
-    (kept-open (entry .args .input .now) (at-read-after .read-after .last .0) (entry .args .kept) (at-read-after .read-after .ensures .1) (entry .pre .1 .0 .begun) (omega (arith, entry .pre .1 .0 .small, entry .pre .0)), (entry .pre .1 .0 .room, (entry .pre .1 .1 .0, entry .pre .1 .1 .1)))
-
-flush-requires : tie.Need-flush-requires
-flush-requires c κs = search needs
+    (omega (arith, (entry .pre .1 .1 .1 .1) .within, at-read-after .read-after .kept .0), (still-open (entry .args .input .now) (at-read-after .read-after .last .0) (entry .args .w .kept) (at-read-after .read-after .ensures .1) ((entry .pre .1 .1 .1 .1) .begun (ended (entry .args .w) (length (entry .args .input .now)) (at-enum-told .enum-told .given .1) (at-read-after .read-after .ensures .0))), ((omega (arith, (entry .pre .1 .1 .1 .1) .nothing, entry .pre .1 .0)), (entry .pre .1 .1 .0, entry .pre .1 .1 .1 .0))))
 
 enum-told-2 : tie.Need-enum-told-2
 enum-told-2 c = search needs
-
-flush-requires-2 : tie.Need-flush-requires-2
-flush-requires-2 c κs = search needs
 
 same-length : tie.Need-same-length
 same-length c = search needs
@@ -81,16 +52,8 @@ same-length-4 c = search needs
 
 returns : tie.Need-returns
 returns c =
-    let at-keep = c .before .before in
-    let at-answer-piece = at-keep .before .before .before .before .before .before .before .before in
-    let at-got = at-answer-piece .before .before .before .before .before .before in
-    let at-read-after = at-got .before .before .before .before in
-    let entry = at-read-after .before .before .before .before .before .before in
-    λ e. record {
-      small = at-keep .keep .ensures .small;
-      begun = kept-begun (at-read-after .read-after .last .0) _ _ _ _ (at-keep .keep .ensures) (omega (arith, at-keep .keep .ensures .small, entry .pre .0, at-read-after .read-after .kept .0, at-keep .keep .kept .0)) (piece-within (at-read-after .read-after .last .0) (omega (arith, (reach (entry .args .kept) (length (entry .args .input .now)) (at-got .got .given .1) (at-read-after .read-after .ensures .0)) .1, at-read-after .read-after .kept .0)) (at-answer-piece .answer-piece .ensures .0)) (omega (arith, (reach (entry .args .kept) (length (entry .args .input .now)) (at-got .got .given .1) (at-read-after .read-after .ensures .0)) .1, at-read-after .read-after .kept .0)) (at-answer-piece .answer-piece .ensures .1 .0 e);
-      room = at-answer-piece .answer-piece .ensures .1 .1;
-    }
+    let at-step = c .before .before .before .before .before .before .before .before .before .before in
+    goes-on (c .hand-out .result) (c .hand-out .ensures) (at-step .step .ensures .1)
 
 same-length-5 : tie.Need-same-length-5
 same-length-5 c = search needs
@@ -105,16 +68,13 @@ same-length-8 : tie.Need-same-length-8
 same-length-8 c = search needs
 
 returns-2 : tie.Need-returns-2
-returns-2 c = λ e. never e
+returns-2 c = search needs
 
 same-length-9 : tie.Need-same-length-9
 same-length-9 c = search needs
 
-same-length-10 : tie.Need-same-length-10
-same-length-10 c = search needs
-
 returns-3 : tie.Need-returns-3
-returns-3 c = λ e. never e
+returns-3 c = search needs
 
 pub turn-spec : {M : Type 1} → statement M
 turn-spec =
@@ -122,17 +82,11 @@ turn-spec =
     (tie.spec
     read-after-requires
     enum-known-got
-    slice-reshare-prefix-answer-piece
-    slice-aggregate-answer-piece
-    answer-piece-requires
-    keep-requires
+    step-requires
+    hand-out-requires
     enum-told
-    slice-reshare-prefix-answer-rest
-    slice-aggregate-answer-rest
-    answer-rest-requires
-    flush-requires
+    last-turn-requires
     enum-told-2
-    flush-requires-2
     same-length
     same-length-2
     same-length-3
@@ -144,5 +98,4 @@ turn-spec =
     same-length-8
     returns-2
     same-length-9
-    same-length-10
     returns-3)
