@@ -22,6 +22,7 @@ kept = record {
   one-read = one.one-read;
   one-written = one.one-written;
   one-named = one.one-named;
+  one-part = one.one-part;
   number-cases = number-cases;
   answered-leaves = left.answered-leaves;
   syntax-leaves = left.syntax-leaves;

@@ -1,5 +1,5 @@
 -- What the public calls promise: each sentence of the three demands, and of the scope's "Left behind" and "Nothing left to choose", as a statement: a type, with its words
--- above it. `Promises`, at the end, is all of them, and the function of src/lib.rt is proved only where each has a proof.
+-- above it. `Promises`, at the end, is all of them, and a function of src/lib.rt is proved only where each has a proof.
 -- `f` is the flag word, `depth` the depth budget, `s` the symbol, `t` the table, `b` the text buffer and `room` its length; a prime marks a second call's.
 -- Assumes nothing: these are definitions.
 use Prim.Native.Nat.{ℕ, suc, _+_, _-_, _*_, _/_, _%_, _^_, _≤_, _<_}
@@ -108,7 +108,7 @@ says numbers a = anyOf (eqb (number a)) numbers
 abbrev pub zeroed : ℕ → List ℕ → List ℕ
 zeroed k t = replicate (k * 12) 0 ++ drop (k * 12) t
 
--- what `demangle`, `write_table` and the two calls of the name question promise of a result and of what is lent at exit
+-- what `demangle`, `write_table`, `name_question` and `name_part` promise of a result and of what is lent at exit (src/lib.rt holds the calls to it)
 pub record Demangles (f depth : ℕ) (s t b : List ℕ) (r : Answer) (t′ b′ : List ℕ) : Type 0 where
   pub answer : r ≡ demangled f depth s t (length b)
   pub table : t′ ≡ tableAfter f depth s t
@@ -119,8 +119,11 @@ pub record Writes (f depth : ℕ) (s t b : List ℕ) (r : Answer) (t′ b′ : L
   pub table : t′ ≡ t
   pub text : b′ ≡ textAlone f depth s t b
 
-pub record Names (s t : List ℕ) (n : ℕ) (r : Answer) (part t′ : List ℕ) : Type 0 where
+pub record Names (s t : List ℕ) (n : ℕ) (r : Answer) (t′ : List ℕ) : Type 0 where
   pub answer : r ≡ nameAnswer s t n
+  pub table : t′ ≡ t
+
+pub record Parts (s t : List ℕ) (n : ℕ) (part t′ : List ℕ) : Type 0 where
   pub bytes : part ≡ nameOf s t n
   pub table : t′ ≡ t
 
@@ -157,7 +160,10 @@ abbrev pub OneWritten : Type 0
 OneWritten = (f depth : ℕ) (s t b t₁ b₁ t₂ b₂ : List ℕ) (r₁ r₂ : Answer) → Writes f depth s t b r₁ t₁ b₁ → Writes f depth s t b r₂ t₂ b₂ → (r₁ ≡ r₂) × (t₁ ≡ t₂) × (b₁ ≡ b₂)
 
 abbrev pub OneNamed : Type 0
-OneNamed = (s t : List ℕ) (n : ℕ) (p₁ t₁ p₂ t₂ : List ℕ) (r₁ r₂ : Answer) → Names s t n r₁ p₁ t₁ → Names s t n r₂ p₂ t₂ → (r₁ ≡ r₂) × (p₁ ≡ p₂) × (t₁ ≡ t₂)
+OneNamed = (s t : List ℕ) (n : ℕ) (t₁ t₂ : List ℕ) (r₁ r₂ : Answer) → Names s t n r₁ t₁ → Names s t n r₂ t₂ → (r₁ ≡ r₂) × (t₁ ≡ t₂)
+
+abbrev pub OnePart : Type 0
+OnePart = (s t : List ℕ) (n : ℕ) (p₁ t₁ p₂ t₂ : List ℕ) → Parts s t n p₁ t₁ → Parts s t n p₂ t₂ → (p₁ ≡ p₂) × (t₁ ≡ t₂)
 
 -- The numbers that the scope marks to be proved: `NumberCases`, one table and one statement, beside the rule (crates/scan/specs/Cases.antt).
 
@@ -190,7 +196,7 @@ FullLeaves =
 abbrev pub NothingLeft : Type 0
 NothingLeft = (f depth : ℕ) (s t b : List ℕ) → says (1 ∷ 2 ∷ 7 ∷ []) (demangled f depth s t (length b)) ≡ true → (tableAfter f depth s t ≡ t) × (textAfter f depth s t b ≡ b)
 
--- The writer alone: 7, 1, 2, 8 and 4 change nothing; 0 leaves all bytes behind the text; 6 a full buffer. (`Writes`: the table is never changed. `Names`: nor by the name question.)
+-- The writer alone: 7, 1, 2, 8 and 4 change nothing; 0 leaves all bytes behind the text; 6 a full buffer. (`Writes`: the table is never changed. `Names`, `Parts`: nor by the name question.)
 abbrev pub AloneNothingLeft : Type 0
 AloneNothingLeft = (f depth : ℕ) (s t b : List ℕ) → says (7 ∷ 1 ∷ 2 ∷ 8 ∷ 4 ∷ []) (writtenAlone f depth s t (length b)) ≡ true → textAlone f depth s t b ≡ b
 
@@ -396,6 +402,7 @@ pub record Promises : Type 0 where
   pub one-read : OneRead
   pub one-written : OneWritten
   pub one-named : OneNamed
+  pub one-part : OnePart
   pub number-cases : NumberCases
   pub answered-leaves : AnsweredLeaves
   pub syntax-leaves : SyntaxLeaves
