@@ -18,15 +18,6 @@ use Rattle.answer_line.proofs.Answers.{long-line}
 use Rattle.answer_line.specs.Line.{lineOf}
 use Rattle.lines.specs.Output.{newlineAt, Open, linesFrom, answersTo, output}
 
-pub newline-within : (s : List ℕ) → newlineAt s ≤ length s
-unfolding newlineAt
-newline-within [] = omega arith
-newline-within (c ∷ s) = by (eqb c 10) (newline-within s)
-  where
-    by : (b : Bool) → newlineAt s ≤ length s → pick b 0 (suc (newlineAt s)) ≤ suc (length s)
-    by true h = omega arith
-    by false h = omega arith
-
 -- a newline ends a line
 abbrev FirstLine : List ℕ → List ℕ → List ℕ → ℕ → Type 0
 FirstLine line s more e = linesFrom line (s ++ more) ≡ (line ++ take e s) ∷ linesFrom [] (drop (suc e) s ++ more)
