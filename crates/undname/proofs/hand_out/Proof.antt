@@ -1,13 +1,14 @@
 -- `hand_out` meets its contract.
 -- Assumes nothing.
 use mathlib.Core.Path.{sym}
+use native.Mathlib.Omega.{arith}
 use lib.Seq.{length-take-le}
 use borrow.Author.Needs.{needs}
 use Rattle.undname.proofs.hand_out.Statement.{statement}
 use Rattle.undname.proofs.hand_out.Tie as tie
 
 slice-aggregate-part : tie.Need-slice-aggregate-part
-slice-aggregate-part c = sym (length-take-le _ _ (c .before .before .pre))
+slice-aggregate-part c = sym (length-take-le _ _ (omega (arith, c .before .before .pre)))
 
 write-all-requires : tie.Need-write-all-requires
 write-all-requires c κs = search needs
