@@ -11,9 +11,11 @@ use Rattle.lines.specs.Output.{newlineAt, Open}
 use Rattle.lines.specs.Steps.{Ready}
 use Rattle.undname.specs.declared.Got.{Got}
 use Rattle.undname.specs.declared.Got.the-variants.{Bytes, End}
+use Rattle.undname.specs.declared.Handed.{Handed}
+use Rattle.undname.specs.declared.Handed.the-variants.{All}
 use Rattle.undname.specs.declared.Next.{Next}
-use Rattle.undname.specs.declared.Next.the-variants.{On, Ended}
-use Rattle.undname.specs.Turns.{Between, Reaches, Emptied, Cleared, GoesOn}
+use Rattle.undname.specs.declared.Next.the-variants.{On}
+use Rattle.undname.specs.Turns.{Between, Reaches, Emptied, Goes}
 
 -- a read after what is kept leaves it
 pub read-keeps : (b l : List ℕ) (a : ℕ) → a ≤ length b → take a (take a b ++ l) ≡ take a b
@@ -31,21 +33,25 @@ pub ended : {g : Got} (w : Work) (len : ℕ) → g ≡ End → Reaches g w len �
 ended w len e r = rw e at r
 
 -- a step, and then all that waits is written
-pub goes-on : (n : Next) {i b : List ℕ} {w : Work} → Emptied n w → Ready i b w → GoesOn n i
-goes-on (On v) {i} e r = record {
-  nothing = e .1;
-  within = omega (arith, e .0, r .within);
-  begun = λ f. rw (e .0) (r .begun (sym (e .2) ∙ f));
-  small = λ f. omega (arith, e .0, r .small (sym (e .2) ∙ f));
-}
-goes-on Ended e r = tt
+pub goes-on : {h : Handed} {v w : Work} {i b : List ℕ} → h ≡ All v → Emptied h w → Ready i b w → Between i v
+goes-on {h} {v} {w} {i} q e r = written (rw q at e)
+  where
+    written : (v .kept ≡ w .kept) × (v .used ≡ 0) × (v .full ≡ w .full) → Between i v
+    written e = record {
+      nothing = e .1;
+      within = omega (arith, e .0, r .within);
+      begun = λ f. rw (e .0) (r .begun (sym (e .2) ∙ f));
+      small = λ f. omega (arith, e .0, r .small (sym (e .2) ∙ f));
+    }
 
 -- the end, and then the same
-pub cleared : (n : Next) (w : Work) → Emptied n w → w .kept ≡ 0 → Cleared n
-cleared (On v) w e k = (e .0 ∙ k, e .1)
-cleared Ended w e k = tt
+pub all-done : {h : Handed} {v w : Work} → h ≡ All v → Emptied h w → w .kept ≡ 0 → (v .kept ≡ 0) × (v .used ≡ 0)
+all-done {h} {v} {w} q e k = written (rw q at e)
+  where
+    written : (v .kept ≡ w .kept) × (v .used ≡ 0) × (v .full ≡ w .full) → (v .kept ≡ 0) × (v .used ≡ 0)
+    written e = (e .0 ∙ k, e .1)
 
-pub going : {n : Next} {v : Work} (i : List ℕ) → n ≡ On v → GoesOn n i → Between i v
+pub going : {n : Next} {v : Work} (i : List ℕ) → n ≡ On v → Goes n i → Between i v
 going i e r = rw e at r
 
 pub begin : (i : List ℕ) → Between i (record { kept = 0; used = 0; full = false })

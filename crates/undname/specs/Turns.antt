@@ -8,8 +8,10 @@ use Rattle.lines.specs.declared.Work.{Work}
 use Rattle.lines.specs.Output.{Open}
 use Rattle.undname.specs.declared.Got.{Got}
 use Rattle.undname.specs.declared.Got.the-variants.{Bytes, End, Failed}
+use Rattle.undname.specs.declared.Handed.{Handed}
+use Rattle.undname.specs.declared.Handed.the-variants as handed
 use Rattle.undname.specs.declared.Next.{Next}
-use Rattle.undname.specs.declared.Next.the-variants.{On, Ended}
+use Rattle.undname.specs.declared.Next.the-variants as next
 
 -- Between two turns nothing waits, and what is kept of the input i is the beginning of a line, unless lines are left for want of room.
 pub record Between (i : List ℕ) (w : Work) : Type 0 where
@@ -25,15 +27,12 @@ Reaches End w len = w .full ≡ false
 Reaches Failed w len = Unit {0}
 
 -- where all that waits is written, the rest of the work stays
-abbrev pub Emptied : Next → Work → Type 0
-Emptied (On v) w = (v .kept ≡ w .kept) × (v .used ≡ 0) × (v .full ≡ w .full)
-Emptied Ended w = Unit {0}
+abbrev pub Emptied : Handed → Work → Type 0
+Emptied (handed.All v) w = (v .kept ≡ w .kept) × (v .used ≡ 0) × (v .full ≡ w .full)
+Emptied handed.Failed w = Unit {0}
 
--- after the end nothing is kept and nothing waits
-abbrev pub Cleared : Next → Type 0
-Cleared (On v) = (v .kept ≡ 0) × (v .used ≡ 0)
-Cleared Ended = Unit {0}
-
-abbrev pub GoesOn : Next → List ℕ → Type 0
-GoesOn (On v) i = Between i v
-GoesOn Ended i = Unit {0}
+-- what a turn leaves, with the input i: work to go on with; or, where all is done, nothing is kept and nothing waits
+abbrev pub Goes : Next → List ℕ → Type 0
+Goes (next.On v) i = Between i v
+Goes (next.Done v) i = (v .kept ≡ 0) × (v .used ≡ 0)
+Goes next.Failed i = Unit {0}

@@ -4,7 +4,7 @@ ghost use mathlib.Core.Path.{_≡_};
 ghost use Prim.Native.Nat.{_+_, _≤_, _<_};
 ghost use lib.ListN.{length, take};
 ghost use Rattle.lines.specs.Output.{Open};
-ghost use Rattle.undname.specs.Turns.{Between, Reaches, Emptied, Cleared, GoesOn};
+ghost use Rattle.undname.specs.Turns.{Between, Reaches, Emptied, Goes};
 use libc::STDERR_FILENO;
 use libc::STDIN_FILENO;
 use libc::STDOUT_FILENO;
@@ -24,10 +24,17 @@ enum Got {
     Failed,
 }
 
-// The work to go on with.
+// What is left to do once all that waits is written.
+enum Handed {
+    All(Work),
+    Failed,
+}
+
+// The work to go on with, or that at the end.
 enum Next {
     On(Work),
-    Ended,
+    Done(Work),
+    Failed,
 }
 
 // Reads once, after what is kept, unless lines are left there; a read into no room would look like the end.
@@ -53,7 +60,7 @@ fn read_after(input: &mut [u8], w: Work) -> Got
 }
 
 // Writes all that waits.
-fn hand_out(out: &[u8], w: Work) -> Next
+fn hand_out(out: &[u8], w: Work) -> Handed
     requires { ⌜ w .used ≤ length (now out) ⌝ }
     ensures { λ r. ⌜ Emptied r w ⌝ }
 {
@@ -64,22 +71,49 @@ fn hand_out(out: &[u8], w: Work) -> Next
             STDERR_FILENO,
             b"undname: standard output can't be written\n",
         );
-        return Next::Ended;
+        return Handed::Failed;
     }
-    Next::On(lines::handed(out, part, w))
+    Handed::All(lines::handed(out, part, w))
 }
 
-// At the end of the input: all is answered and written, and nothing is kept.
+// The lines that came are answered, and the answers written.
+fn step_on(
+    input: &mut [u8],
+    came: usize,
+    out: &mut [u8],
+    table: &mut [u32],
+    text: &mut [u8],
+    w: Work,
+) -> Next
+    requires { ⌜ w .kept + came ≤ length (now input) ⌝ }
+    requires { ⌜ w .used + 4100 ≤ length (now out) ⌝ }
+    requires { ⌜ length (now table) ≡ 12288 ⌝ }
+    requires { ⌜ length (now text) ≡ 4096 ⌝ }
+    ensures { λ r. ⌜ Goes r (now (input .exit)) ⌝ }
+{
+    let after = lines::step(input, came, out, table, text, w);
+    let handed = hand_out(out, after);
+    match handed {
+        Handed::All(v) => Next::On(v),
+        Handed::Failed => Next::Failed,
+    }
+}
+
+// At the end of the input: the rest is answered, and the last answer written.
 fn last_turn(input: &[u8], out: &mut [u8], table: &mut [u32], text: &mut [u8], w: Work) -> Next
     requires { ⌜ w .kept ≤ length (now input) ⌝ }
     requires { ⌜ Open (take (w .kept) (now input)) ⌝ }
     requires { ⌜ w .used + 4100 ≤ length (now out) ⌝ }
     requires { ⌜ length (now table) ≡ 12288 ⌝ }
     requires { ⌜ length (now text) ≡ 4096 ⌝ }
-    ensures { λ r. ⌜ Cleared r ⌝ }
+    ensures { λ r. ⌜ Goes r (now (input .entry)) ⌝ }
 {
     let last = lines::finish(input, out, table, text, w);
-    hand_out(out, last)
+    let handed = hand_out(out, last);
+    match handed {
+        Handed::All(v) => Next::Done(v),
+        Handed::Failed => Next::Failed,
+    }
 }
 
 // One read, and all that can be answered then.
@@ -89,19 +123,13 @@ fn turn(input: &mut [u8], out: &mut [u8], table: &mut [u32], text: &mut [u8], w:
     requires { ⌜ length (now table) ≡ 12288 ⌝ }
     requires { ⌜ length (now text) ≡ 4096 ⌝ }
     requires { ⌜ Between (now input) w ⌝ }
-    ensures { λ r. ⌜ GoesOn r (now (input .exit)) ⌝ }
+    ensures { λ r. ⌜ Goes r (now (input .exit)) ⌝ }
 {
     let got = read_after(input, w);
     match got {
-        Got::Bytes(came) => {
-            let after = lines::step(input, came, out, table, text, w);
-            hand_out(out, after)
-        }
-        Got::End => {
-            last_turn(input, out, table, text, w);
-            Next::Ended
-        }
-        Got::Failed => Next::Ended,
+        Got::Bytes(came) => step_on(input, came, out, table, text, w),
+        Got::End => last_turn(input, out, table, text, w),
+        Got::Failed => Next::Failed,
     }
 }
 
@@ -119,10 +147,11 @@ fn run(input: &mut [u8], out: &mut [u8], table: &mut [u32], text: &mut [u8])
         full: false,
     };
     while 0 < turns {
-        let done = turn(input, out, table, text, w);
-        match done {
+        let next = turn(input, out, table, text, w);
+        match next {
             Next::On(v) => w = v,
-            Next::Ended => return,
+            Next::Done(_) => return,
+            Next::Failed => return,
         }
         turns -= 1;
     }

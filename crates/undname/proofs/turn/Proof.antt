@@ -2,7 +2,7 @@
 -- Assumes nothing.
 use native.Mathlib.Omega.{arith}
 use lib.ListN.{length}
-use Rattle.undname.proofs.Turning.{still-open, reach, ended, goes-on}
+use Rattle.undname.proofs.Turning.{still-open, reach, ended}
 use borrow.Author.Needs.{needs}
 use Rattle.undname.proofs.turn.Statement.{statement}
 use Rattle.undname.proofs.turn.Tie as tie
@@ -15,15 +15,12 @@ read-after-requires c κs =
 enum-known-got : tie.Need-enum-known-got
 enum-known-got c = search needs
 
-step-requires : tie.Need-step-requires
-step-requires c κs =
+step-on-requires : tie.Need-step-on-requires
+step-on-requires c κs =
     let at-got = c .before .before .before .before .before in
     let at-read-after = at-got .before .before .before .before in
     let entry = at-read-after .before .before .before .before .before .before in
     (omega (arith, (reach (entry .args .w) (length (entry .args .input .now)) (at-got .got .given .1) (at-read-after .read-after .ensures .0)), at-read-after .read-after .kept .0), ((omega (arith, (entry .pre .1 .1 .1 .1) .nothing, entry .pre .1 .0)), (entry .pre .1 .1 .0, entry .pre .1 .1 .1 .0)))
-
-hand-out-requires : tie.Need-hand-out-requires
-hand-out-requires c κs = search needs
 
 enum-told : tie.Need-enum-told
 enum-told c = search needs
@@ -51,9 +48,7 @@ same-length-4 : tie.Need-same-length-4
 same-length-4 c = search needs
 
 returns : tie.Need-returns
-returns c =
-    let at-step = c .before .before .before .before .before .before .before .before .before .before in
-    goes-on (c .hand-out .result) (c .hand-out .ensures) (at-step .step .ensures .1)
+returns c = search needs
 
 same-length-5 : tie.Need-same-length-5
 same-length-5 c = search needs
@@ -82,8 +77,7 @@ turn-spec =
     (tie.spec
     read-after-requires
     enum-known-got
-    step-requires
-    hand-out-requires
+    step-on-requires
     enum-told
     last-turn-requires
     enum-told-2
