@@ -45,8 +45,8 @@ goes-on {h} {v} {w} {i} q e r = written (rw q at e)
     }
 
 -- the end, and then the same
-pub all-done : {h : Handed} {v w : Work} → h ≡ All v → Emptied h w → w .kept ≡ 0 → (v .kept ≡ 0) × (v .used ≡ 0)
-all-done {h} {v} {w} q e k = written (rw q at e)
+pub all-done : {h : Handed} {v : Work} (w : Work) → h ≡ All v → Emptied h w → w .kept ≡ 0 → (v .kept ≡ 0) × (v .used ≡ 0)
+all-done {h} {v} w q e k = written (rw q at e)
   where
     written : (v .kept ≡ w .kept) × (v .used ≡ 0) × (v .full ≡ w .full) → (v .kept ≡ 0) × (v .used ≡ 0)
     written e = (e .0 ∙ k, e .1)

@@ -31,7 +31,7 @@ returns c =
     let at-handed = c .before in
     let at-hand-out = at-handed .before .before in
     let at-finish = at-hand-out .before .before .before .before .before .before .before .before in
-    all-done (at-handed .handed .given .1) (at-hand-out .hand-out .ensures) (at-finish .finish .ensures .0 .0)
+    all-done (at-finish .finish .result) (at-handed .handed .given .1) (at-hand-out .hand-out .ensures) (at-finish .finish .ensures .0 .0)
 
 same-length-4 : tie.Need-same-length-4
 same-length-4 c = search needs
