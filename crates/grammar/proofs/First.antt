@@ -6,7 +6,7 @@
 use Prim.Native.Nat.{ℕ, zero, suc, _-_, _<_}
 use mathlib.Core.Bool.{Bool, true, false}
 use mathlib.Core.Path.{_≡_, refl, sym, ap, _∙_}
-use mathlib.Core.List.{List, [], _∷_, _++_}
+use mathlib.Core.List.{List, [], _∷_}
 use native.Mathlib.Omega.{arith}
 use borrow.Author.Tests.{leb-false, lt-leb}
 use lib.Dec.{leb}
@@ -14,7 +14,6 @@ use Rattle.scan.specs.Bytes.{pick}
 use Rattle.grammar.specs.Program.{Program, ret, fail, look, when, skip, recall, keep, store, part, sub, node, Reply, found, refused, Out, out, onward, Part, Same, run}
 use Rattle.grammar.specs.Counts.{Node, Demand, Log, budget, name, settled, fits, First, opened, asking, shutAsking, readAsking, asks}
 use Rattle.grammar.specs.declared.State.{State}
-use Rattle.grammar.specs.declared.Refusal.the-variants.{Deep}
 use Rattle.grammar.proofs.Demands.{true-false, settled-append, passed}
 
 module _ (deepest most : ℕ) where

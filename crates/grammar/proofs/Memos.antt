@@ -20,7 +20,7 @@ use Rattle.forms.specs.Types as types
 use Rattle.forms.specs.declared.types.Reference.{Reference}
 use Rattle.forms.specs.declared.types.Reference.the-variants.{Stored}
 use Rattle.grammar.specs.Program.{ret, part, sub, Reply, found, refused, Out, out, onward, Part, Shut, Same, run, at+, with}
-use Rattle.grammar.specs.Words.{byteAt, nameOf, typeOf}
+use Rattle.grammar.specs.Words.{byteAt, typeOf}
 use Rattle.grammar.specs.Counts.{Node, made, deepens, closed, shutNodes, shutAsking}
 use Rattle.grammar.specs.Table.{shutAt, shutTable}
 use Rattle.node.specs.Cells as table
@@ -107,21 +107,13 @@ module _ {T : Type 0} (s : List ℕ) (same : Same T) (shut : Shut T) (rec : Part
   pub hands-back : Steady shut → (st : State) (t : T) (n : ℕ) → run s same shut rec templateName st t .reply ≡ found n → run s same shut rec templateName st t .state .memo ≡ st .memo
   hands-back steady st t n e = subst (λ (r : Reply ℕ). IfFound r (λ a. run s same shut rec templateName st t .state .memo ≡ st .memo)) e (hands steady st t .end)
 
-  -- an entry of the memo
+  -- a type of the memo
   module _ (i : ℕ) (st : State) (t : T) where
-    pub name-entry : i < st .memo .«names_len» → run s same shut rec (nameOf i) st t ≡ out (found (getD (st .memo .names) i 0)) st t
-    unfolding run
-    name-entry l = rw (lt-ltb i (st .memo .«names_len») l)
-
-    pub no-name : st .memo .«names_len» ≤ i → run s same shut rec (nameOf i) st t ≡ out (refused Syntax) st t
-    unfolding run
-    no-name l = rw (le-ltb i (st .memo .«names_len») l)
-
-    pub type-entry : i < st .memo .«types_len» → run s same shut rec (typeOf i) st t ≡ out (found (getD (st .memo .types) i 0)) st t
+    type-entry : i < st .memo .«types_len» → run s same shut rec (typeOf i) st t ≡ out (found (getD (st .memo .types) i 0)) st t
     unfolding run
     type-entry l = rw (lt-ltb i (st .memo .«types_len») l)
 
-    pub no-type : st .memo .«types_len» ≤ i → run s same shut rec (typeOf i) st t ≡ out (refused Syntax) st t
+    no-type : st .memo .«types_len» ≤ i → run s same shut rec (typeOf i) st t ≡ out (refused Syntax) st t
     unfolding run
     no-type l = rw (le-ltb i (st .memo .«types_len») l)
 
