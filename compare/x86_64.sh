@@ -5,12 +5,21 @@
 # x86_64_ready finds the tools, and installs Debian's where they are absent, apt-get is there and the user is root. Then
 #   $x86_64_cc, $x86_64_rustc   are the words of a C and a Rust compiler (to be split at spaces),
 #   $x86_64_runner              is the emulator, and empty on an x86-64 machine,
-#   x86_64_run PROGRAM WORDS    runs a program.
+#   x86_64_run PROGRAM WORDS    runs a program,
+#   x86_64_run_small PROGRAM WORDS   runs it on a stack of $x86_64_small_stack KiB.
 x86_64_cc='' x86_64_rustc='' x86_64_runner='' x86_64_why=''
 x86_64_target=x86_64-unknown-linux-gnu
+x86_64_small_stack=1024
 x86_64_packages=(qemu-user gcc-x86-64-linux-gnu libc6-dev:amd64 rustc-web libstd-rust-web-dev:amd64)
 
 x86_64_run() { $x86_64_runner "$@"; }
+x86_64_run_small() {
+  if [ -n "$x86_64_runner" ]; then
+    "$x86_64_runner" -s "$((x86_64_small_stack << 10))" "$@"
+  else
+    (ulimit -s "$x86_64_small_stack" && "$@")
+  fi
+}
 
 # The first of these compilers that has a standard library for x86-64.
 x86_64_find_rustc() { # rustc, another one...

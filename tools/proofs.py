@@ -766,6 +766,17 @@ def skeletons(copy, words):
     return out, output if any(out.values()) else said
 
 
+def laid_out(files):
+    """name -> the text of an antt file, as `rt fmt` lays it out."""
+    with tempfile.TemporaryDirectory(prefix='proofs-') as top:
+        folder = f'{top}/crates/laid/proofs'
+        write(f'{top}/crates.txt', '')
+        for name, text in files.items():
+            write(f'{folder}/{name}', text)
+        rt(['fmt'], top)
+        return {name: read(f'{folder}/{name}') for name in files}
+
+
 def put_proof(crate, found, text, force=False):
     unit, offer, places, old = found
     report = dict(open=[], none=[], trouble=[])
@@ -789,7 +800,7 @@ def put_proof(crate, found, text, force=False):
         d = f'crates/{crate}/proofs/{u}'
         for e, _, fs in os.walk(d):
             stale += [os.path.join(e, f) for f in fs if e.startswith(d + '/Proof') or f == 'Proof.antt']
-    new = {os.path.normpath(f'{top}/{f}'): t for f, t in files.items()}
+    new = {os.path.normpath(f'{top}/{f}'): t for f, t in laid_out(files).items()}
     for p in stale:
         if os.path.normpath(p) not in new:
             os.remove(p)

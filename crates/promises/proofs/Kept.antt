@@ -10,6 +10,7 @@ use Rattle.promises.proofs.AloneBudgets as writer
 use Rattle.promises.proofs.OneAnswer as one
 use Rattle.promises.proofs.Told as told
 use Rattle.promises.proofs.Flags as flags
+use Rattle.promises.proofs.Gated as gated
 use Rattle.promises.proofs.Memos as memos
 
 pub kept : Promises
@@ -19,6 +20,12 @@ kept = record {
   name-numbers = told.name-numbers;
   reports = told.tells;
   known-words = flags.known-words;
+  read-gated = gated.read-gated;
+  write-gated = gated.write-gated;
+  name-gated = gated.name-gated;
+  write-tables = gated.write-tables;
+  name-tables = gated.name-tables;
+  name-accepts = gated.name-accepts;
   one-read = one.one-read;
   one-written = one.one-written;
   one-named = one.one-named;

@@ -9,5 +9,6 @@ pub mod AloneBudgets
 pub mod OneAnswer
 pub mod Told
 pub mod Flags
+pub mod Gated
 pub mod Memos
 pub mod Kept

@@ -7,6 +7,7 @@ use Prim.Native.Char.{code}
 use mathlib.Core.Bool.{Bool, true, false}
 use mathlib.Core.Path.{_≡_}
 use mathlib.Core.List.{List, [], _∷_, _++_}
+use mathlib.Core.Logic.{_↔_, _⊎_}
 use lib.Dec.{eqb}
 use lib.ListN.{length, take, drop, getD, replicate}
 use Rattle.scan.specs.Bytes.{isDigit}
@@ -27,9 +28,9 @@ use Rattle.writer.specs.Written.{textOf}
 use Rattle.gates.specs.declared.Gate.the-variants.{Open}
 use Rattle.farthingmoss.specs.declared.Counts.{Counts}
 use Rattle.farthingmoss.specs.declared.Answer.{Answer}
-use Rattle.farthingmoss.specs.declared.Answer.the-variants.{Answered, NoDerivation, TooDeep, NoNode, NoRoom}
-use Rattle.gates.specs.Gates.{knownFlags, gate}
-use Rattle.farthingmoss.specs.Call.{reportOf, reported, refusal, demangled, tableAfter, textAfter, rooted, rootHeight, writtenAlone, textAlone, nameAnswer, nameOf}
+use Rattle.farthingmoss.specs.declared.Answer.the-variants.{Answered, NoSymbol, NotAscii, NoDerivation, TooDeep, NoNode, NoRoom, BadCall, BadTable}
+use Rattle.gates.specs.Gates.{knownFlags, symbolGate, gate}
+use Rattle.farthingmoss.specs.Call.{reportOf, reported, refusal, demangled, tableAfter, textAfter, rooted, rootHeight, writtenAlone, textAlone, nameOk, nameAnswer, nameOf}
 
 -- THE WORDS
 
@@ -148,7 +149,46 @@ abbrev pub bit : ℕ → ℕ → ℕ
 bit word i = word / 2 ^ i % 2
 
 abbrev pub KnownWords : Type 0
-KnownWords = (f : ℕ) → f < 2 ^ 32 → (knownFlags f ≡ true → (i : ℕ) → bit f i ≡ 1 → bit 32513766 i ≡ 1) × (((i : ℕ) → bit f i ≡ 1 → bit 32513766 i ≡ 1) → knownFlags f ≡ true)
+KnownWords = (f : ℕ) → f < 2 ^ 32 → (knownFlags f ≡ true) ↔ ((i : ℕ) → bit f i ≡ 1 → bit 32513766 i ≡ 1)
+
+-- Before anything is read: 7 exactly where the depth budget is above 200 or a flag bit is unknown; else 1 exactly where the symbol has no byte or more than 4,096; else 2 exactly
+-- where it has a byte of 128 or more, at the first. (The name question has no budget, so that it never says 7.)
+abbrev pub BadBudget : ℕ → ℕ → Type 0
+BadBudget f depth = (200 < depth) ⊎ (knownFlags f ≡ false)
+
+abbrev pub BadLength : List ℕ → Type 0
+BadLength s = (length s ≡ 0) ⊎ (4096 < length s)
+
+pub record FirstHigh (s : List ℕ) (at : ℕ) : Type 0 where
+  pub inside : at < length s
+  pub high : 128 ≤ getD s at 0
+  pub first : (i : ℕ) → i < at → getD s i 0 < 128
+
+pub record Gated (bad : Type 0) (s : List ℕ) (a : Answer) : Type 0 where
+  pub seven : (a ≡ BadCall) ↔ bad
+  pub one : (a ≡ NoSymbol) ↔ ((¬ bad) × BadLength s)
+  pub two : (at : ℕ) → (a ≡ NotAscii at) ↔ ((¬ bad) × (¬ BadLength s) × FirstHigh s at)
+
+abbrev pub ReadGated : Type 0
+ReadGated = (f depth : ℕ) (s t : List ℕ) (room : ℕ) → Gated (BadBudget f depth) s (demangled f depth s t room)
+
+abbrev pub WriteGated : Type 0
+WriteGated = (f depth : ℕ) (s t : List ℕ) (room : ℕ) → Gated (BadBudget f depth) s (writtenAlone f depth s t room)
+
+abbrev pub NameGated : Type 0
+NameGated = (s t : List ℕ) (n : ℕ) → Gated ⊥ s (nameAnswer s t n)
+
+-- Behind these, 8 exactly where the table is not well formed with a ParseResult as its last node, or has no such name; a name that there is is answered with an offset and counts of 0.
+abbrev pub WriteTables : Type 0
+WriteTables = (f depth : ℕ) (s t : List ℕ) (room : ℕ) → (writtenAlone f depth s t room ≡ BadTable) ↔ ((gate f depth s ≡ Open) × (rooted (length s) t ≡ false))
+
+abbrev pub NameTables : Type 0
+NameTables = (s t : List ℕ) (n : ℕ) → (nameAnswer s t n ≡ BadTable) ↔ ((symbolGate s ≡ Open) × (nameOk (length s) t n ≡ false))
+
+abbrev pub NameAccepts : Type 0
+NameAccepts =
+    (s t : List ℕ) (n : ℕ) (c : Counts) →
+    (nameAnswer s t n ≡ Answered c) ↔ ((symbolGate s ≡ Open) × (nameOk (length s) t n ≡ true) × (c ≡ record { offset = 0; depth = 0; nodes = 0; text = 0 }))
 
 -- NOTHING LEFT TO CHOOSE
 
@@ -221,14 +261,12 @@ OldContents =
 -- A symbol that the grammar derives is answered with its counts, and no other call is answered so.
 abbrev pub Accepts : Type 0
 Accepts =
-    (f depth : ℕ) (s t : List ℕ) (room : ℕ) (c : Counts) →
-    (demangled f depth s t room ≡ Answered c → Accepted f depth s t room c) × (Accepted f depth s t room c → demangled f depth s t room ≡ Answered c)
+    (f depth : ℕ) (s t : List ℕ) (room : ℕ) (c : Counts) → (demangled f depth s t room ≡ Answered c) ↔ Accepted f depth s t room c
 
 -- A symbol with no derivation is refused where the grammar's own reading ends, and no other call is refused so.
 abbrev pub Rejects : Type 0
 Rejects =
-    (f depth : ℕ) (s t : List ℕ) (room at : ℕ) →
-    (demangled f depth s t room ≡ NoDerivation at → Rejected f depth s t at) × (Rejected f depth s t at → demangled f depth s t room ≡ NoDerivation at)
+    (f depth : ℕ) (s t : List ℕ) (room at : ℕ) → (demangled f depth s t room ≡ NoDerivation at) ↔ Rejected f depth s t at
 
 -- A back-reference. What is said of a reading, whatever it is written on: `same` is when two nodes are equal, `shut` how a node is closed, `rec` how a part is read.
 abbrev pub Said : Type 1
@@ -311,13 +349,11 @@ CutBegins =
 -- 4 and 5 come exactly when, before any other, the grammar's own count passes that limit; 6 exactly when none does and the text of its tree is longer than the room.
 abbrev pub Blames : Type 0
 Blames =
-    (l : Limit) (f depth : ℕ) (s t : List ℕ) (room at : ℕ) →
-    (demangled f depth s t room ≡ refusal (name l) at → Blamed l f depth s t at) × (Blamed l f depth s t at → demangled f depth s t room ≡ refusal (name l) at)
+    (l : Limit) (f depth : ℕ) (s t : List ℕ) (room at : ℕ) → (demangled f depth s t room ≡ refusal (name l) at) ↔ Blamed l f depth s t at
 
 abbrev pub Spills : Type 0
 Spills =
-    (f depth : ℕ) (s t : List ℕ) (room : ℕ) (c : Counts) →
-    (demangled f depth s t room ≡ NoRoom c → Spilled f depth s t room c) × (Spilled f depth s t room c → demangled f depth s t room ≡ NoRoom c)
+    (f depth : ℕ) (s t : List ℕ) (room : ℕ) (c : Counts) → (demangled f depth s t room ≡ NoRoom c) ↔ Spilled f depth s t room c
 
 -- The reported counts suffice.
 abbrev pub Suffices : Type 0
@@ -345,19 +381,17 @@ TooSmall =
 abbrev pub AloneAccepts : Type 0
 AloneAccepts =
     (f depth : ℕ) (s t : List ℕ) (room : ℕ) (c : Counts) →
-    (writtenAlone f depth s t room ≡ Answered c → Rooted f depth s t × (rootHeight t ≤ depth) × (length (rootWords f s t) ≤ room) × (c ≡ rootCounts f s t))
-    × (Rooted f depth s t × (rootHeight t ≤ depth) × (length (rootWords f s t) ≤ room) × (c ≡ rootCounts f s t) → writtenAlone f depth s t room ≡ Answered c)
+    (writtenAlone f depth s t room ≡ Answered c) ↔ (Rooted f depth s t × (rootHeight t ≤ depth) × (length (rootWords f s t) ≤ room) × (c ≡ rootCounts f s t))
 
 abbrev pub AloneBlames : Type 0
 AloneBlames =
     (f depth : ℕ) (s t : List ℕ) (room at : ℕ) →
-    (writtenAlone f depth s t room ≡ TooDeep at → Rooted f depth s t × (depth < rootHeight t) × (at ≡ 0)) × (Rooted f depth s t × (depth < rootHeight t) × (at ≡ 0) → writtenAlone f depth s t room ≡ TooDeep at)
+    (writtenAlone f depth s t room ≡ TooDeep at) ↔ (Rooted f depth s t × (depth < rootHeight t) × (at ≡ 0))
 
 abbrev pub AloneSpills : Type 0
 AloneSpills =
     (f depth : ℕ) (s t : List ℕ) (room : ℕ) (c : Counts) →
-    (writtenAlone f depth s t room ≡ NoRoom c → Rooted f depth s t × (rootHeight t ≤ depth) × (room < length (rootWords f s t)) × (c ≡ countsIn room (rootCounts f s t)))
-    × (Rooted f depth s t × (rootHeight t ≤ depth) × (room < length (rootWords f s t)) × (c ≡ countsIn room (rootCounts f s t)) → writtenAlone f depth s t room ≡ NoRoom c)
+    (writtenAlone f depth s t room ≡ NoRoom c) ↔ (Rooted f depth s t × (rootHeight t ≤ depth) × (room < length (rootWords f s t)) × (c ≡ countsIn room (rootCounts f s t)))
 
 -- more changes no word, and a cut text begins the whole;
 abbrev pub AloneMoreAnswered : Type 0
@@ -399,6 +433,12 @@ pub record Promises : Type 0 where
   pub name-numbers : NameNumbers
   pub reports : Reports
   pub known-words : KnownWords
+  pub read-gated : ReadGated
+  pub write-gated : WriteGated
+  pub name-gated : NameGated
+  pub write-tables : WriteTables
+  pub name-tables : NameTables
+  pub name-accepts : NameAccepts
   pub one-read : OneRead
   pub one-written : OneWritten
   pub one-named : OneNamed
