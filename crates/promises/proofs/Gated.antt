@@ -9,9 +9,7 @@ use borrow.Author.Tests.{leb-true, leb-false, ltb-true, ltb-false, eqb-true, eqb
 use lib.Dec.{leb, ltb, eqb}
 use lib.ListN.{length, getD}
 use Rattle.scan.specs.Bytes.{pick}
-use Rattle.grammar.specs.Program.{Reply, found, refused}
-use Rattle.grammar.specs.Counts.{Node}
-use Rattle.grammar.specs.declared.State.{State}
+use Rattle.grammar.specs.declared.Refusal.{Refusal}
 use Rattle.grammar.specs.declared.Refusal.the-variants.{Syntax, Deep, Full}
 use Rattle.node.specs.Cells.{nodes}
 use Rattle.reader.specs.Whole.{whole}
@@ -23,9 +21,9 @@ use Rattle.gates.specs.Gates.{knownFlags, highAt, symbolGate, gate}
 use Rattle.farthingmoss.specs.declared.Counts.{Counts}
 use Rattle.farthingmoss.specs.declared.Answer.{Answer}
 use Rattle.farthingmoss.specs.declared.Answer.the-variants.{Answered, NoSymbol, NotAscii, NoDerivation, TooDeep, NoNode, NoRoom, BadCall, BadTable}
-use Rattle.farthingmoss.specs.Call.{through, fitted, demangled, rooted, rootHeight, rootAnswer, writtenAlone, nameOk, nameAnswer}
+use Rattle.farthingmoss.specs.Call.{through, fitted, refusal, demangled, rooted, rootHeight, rootAnswer, writtenAlone, nameOk, nameAnswer}
 use Rattle.promises.specs.Promises.{rootWords, BadBudget, BadLength, FirstHigh, Gated, ReadGated, WriteGated, NameGated, WriteTables, NameTables, NameAccepts}
-use Rattle.promises.proofs.Reading.{said, open-answers}
+use Rattle.promises.proofs.Reading.{said-any, open-answers}
 use Rattle.promises.proofs.Grammar.{impossible}
 
 -- where the first byte of 128 or more stands
@@ -151,16 +149,10 @@ through-gated (High place) a k w = record {
     same-place e = cc
 
 -- a reading call
-fitted-late : (offset depth nodes room k : ℕ) (b : Bool) → late (fitted offset depth nodes room (pick b (Whole k) Cut)) ≡ true
-fitted-late offset depth nodes room k true = refl
-fitted-late offset depth nodes room k false = refl
-
-said-late : (f : ℕ) (s : List ℕ) (room : ℕ) (r : Reply ℕ) (st : State) (ns : List Node) → late (said f s room r st ns) ≡ true
-unfolding written
-said-late f s room (found n) st ns = fitted-late (st .at) (st .deep) (st .used) room _ (leb _ room)
-said-late f s room (refused Syntax) st ns = refl
-said-late f s room (refused Deep) st ns = refl
-said-late f s room (refused Full) st ns = refl
+refusal-late : (why : Refusal) (at : ℕ) → late (refusal why at) ≡ true
+refusal-late Syntax at = refl
+refusal-late Deep at = refl
+refusal-late Full at = refl
 
 opened : (g : Gate) (a : Answer) → g ≡ Open → a ≡ through g a
 opened g a o = rw o
@@ -169,7 +161,7 @@ pub read-gated : ReadGated
 unfolding demangled
 read-gated f depth s t room =
     through-gated (gate f depth s) _
-    (λ o. ap late (opened (gate f depth s) _ o ∙ open-answers f depth s t o room) ∙ said-late f s room (whole s depth t .reply) (whole s depth t .state) (whole s depth t .cells))
+    (λ o. ap late (opened (gate f depth s) _ o ∙ open-answers f depth s t o room) ∙ said-any (λ (a : Answer). late a ≡ true) (λ c. refl) (λ c. refl) refusal-late f s room (whole s depth t .reply) (whole s depth t .state) (whole s depth t .cells))
     (gate-stands f depth s)
 
 -- the writer alone, and the name question

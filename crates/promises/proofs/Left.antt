@@ -4,11 +4,9 @@ use mathlib.Core.Bool.{Bool, true, false}
 use mathlib.Core.Path.{_≡_, refl, sym, ap, _∙_}
 use mathlib.Core.List.{List, [], _∷_, _++_}
 use native.Mathlib.Omega.{arith}
-use lib.Dec.{leb}
 use lib.ListN.{length, drop}
-use Rattle.scan.specs.Bytes.{pick}
 use Rattle.node.specs.Cells.{nodes}
-use Rattle.grammar.specs.Program.{Reply, found, refused, Out}
+use Rattle.grammar.specs.Program.{Reply, Out}
 use Rattle.grammar.specs.Counts.{Node, bare}
 use Rattle.grammar.specs.Table.{cellsOf, sameNodes}
 use Rattle.grammar.specs.Grammar.{Parse, body}
@@ -16,29 +14,21 @@ use Rattle.grammar.specs.declared.State.{State}
 use Rattle.grammar.proofs.First.{settled-first}
 use Rattle.grammar.proofs.Honest.{HonestLog, honest-at, reads-honest}
 use Rattle.reader.specs.Whole.{start, whole, cellsLeft}
-use Rattle.writer.specs.declared.Written.the-variants.{Whole, Cut}
-use Rattle.writer.specs.Written.{written}
 use Rattle.gates.specs.declared.Gate.{Gate}
 use Rattle.gates.specs.declared.Gate.the-variants.{Open, Call, Symbol, High}
 use Rattle.farthingmoss.specs.declared.Counts.{Counts}
 use Rattle.farthingmoss.specs.declared.Answer.{Answer}
 use Rattle.farthingmoss.specs.declared.Answer.the-variants.{Answered, NoSymbol, NotAscii, NoDerivation, TooDeep, NoNode, NoRoom, BadCall, BadTable}
 use Rattle.gates.specs.Gates.{gate}
-use Rattle.farthingmoss.specs.Call.{fitted, demangled, tableAfter, textAfter}
+use Rattle.farthingmoss.specs.Call.{demangled, tableAfter, textAfter}
 use Rattle.gates.proofs.Opens.{open-low}
 use Rattle.promises.specs.Promises.{own, ownNodes, ownText, says, zeroed, AnsweredLeaves, SyntaxLeaves, LimitLeaves, FullLeaves, NothingLeft, OldContents}
-use Rattle.promises.proofs.Reading.{said, wrote, open-answers, open-leaves, open-writes, within-leaves, within-writes, isRead, refusal-read}
+use Rattle.promises.proofs.Reading.{said, said-any, wrote, open-answers, open-leaves, open-writes, within-leaves, within-writes, isRead, refusal-read}
 use Rattle.promises.proofs.Grammar.{impossible, nodes-left, writes, begins, accepted, spilled, rejected}
 use Rattle.promises.proofs.Budgets.{more-text}
 
-fitted-read : (offset depth nodes room k : ℕ) (b : Bool) → isRead (fitted offset depth nodes room (pick b (Whole k) Cut)) ≡ true
-fitted-read offset depth nodes room k true = refl
-fitted-read offset depth nodes room k false = refl
-
 said-read : (f : ℕ) (s : List ℕ) (room : ℕ) (r : Reply ℕ) (st : State) (ns : List Node) → isRead (said f s room r st ns) ≡ true
-unfolding written
-said-read f s room (found n) st ns = fitted-read (st .at) (st .deep) (st .used) room _ (leb _ room)
-said-read f s room (refused why) st ns = refusal-read why (st .at)
+said-read = said-any (λ (a : Answer). isRead a ≡ true) (λ c. refl) (λ c. refl) refusal-read
 
 -- 1, 2 and 7 come of no reading
 not-read : (a : Answer) → says (1 ∷ 2 ∷ 7 ∷ []) a ≡ true → isRead a ≡ false

@@ -29,9 +29,11 @@ use Rattle.grammar.proofs.First.{stopped}
 use Rattle.grammar.proofs.Formed as formed
 use Rattle.reader.specs.Whole.{start, whole, inside, told, cellsLeft}
 use Rattle.text.specs.Emit.{cut}
+use Rattle.writer.specs.declared.Written.the-variants.{Whole, Cut}
 use Rattle.writer.specs.Written.{textOf, written}
 use Rattle.gates.specs.declared.Gate.{Gate}
 use Rattle.gates.specs.declared.Gate.the-variants.{Open, Call, Symbol, High}
+use Rattle.farthingmoss.specs.declared.Counts.{Counts}
 use Rattle.farthingmoss.specs.declared.Answer.{Answer}
 use Rattle.farthingmoss.specs.declared.Answer.the-variants.{Answered, NoSymbol, NotAscii, NoDerivation, TooDeep, NoNode, NoRoom, BadCall, BadTable}
 use Rattle.gates.specs.Gates.{knownFlags, symbolGate, gate}
@@ -122,6 +124,17 @@ module _ (ns : List Node) (tail : List ℕ) where
 abbrev pub said : ℕ → List ℕ → ℕ → Reply ℕ → State → List Node → Answer
 said f s room (found n) st ns = fitted (st .at) (st .deep) (st .used) room (written room (textOf f (cellsOf ns) s (n + 1)))
 said f s room (refused why) st ns = refusal why (st .at)
+
+-- what holds of 0, 6 and the refusals of a reading holds of what a call answers to it
+module _ (P : Answer → Type 0) (whole : (c : Counts) → P (Answered c)) (cut : (c : Counts) → P (NoRoom c)) where
+  fitted-any : (offset depth nodes room k : ℕ) (b : Bool) → P (fitted offset depth nodes room (pick b (Whole k) Cut))
+  fitted-any offset depth nodes room k true = whole _
+  fitted-any offset depth nodes room k false = cut _
+
+  pub said-any : ((why : Refusal) (at : ℕ) → P (refusal why at)) → (f : ℕ) (s : List ℕ) (room : ℕ) (r : Reply ℕ) (st : State) (ns : List Node) → P (said f s room r st ns)
+  unfolding written
+  said-any k f s room (found n) st ns = fitted-any (st .at) (st .deep) (st .used) room _ (leb _ room)
+  said-any k f s room (refused why) st ns = k why (st .at)
 
 abbrev pub wrote : ℕ → List ℕ → List ℕ → Reply ℕ → List Node → List ℕ
 wrote f s b (found n) ns = cut b (textOf f (cellsOf ns) s (n + 1))

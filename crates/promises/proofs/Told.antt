@@ -7,9 +7,10 @@ use native.Mathlib.Omega.{arith}
 use lib.Dec.{leb, ltb, eqb}
 use lib.ListN.{length}
 use Rattle.scan.specs.Bytes.{pick}
-use Rattle.grammar.specs.Program.{Reply, found, refused}
+use Rattle.grammar.specs.Program.{Reply}
 use Rattle.grammar.specs.Counts.{Node}
 use Rattle.grammar.specs.declared.State.{State}
+use Rattle.grammar.specs.declared.Refusal.{Refusal}
 use Rattle.grammar.specs.declared.Refusal.the-variants.{Syntax, Deep, Full}
 use Rattle.reader.specs.Whole.{whole}
 use Rattle.writer.specs.declared.Written.the-variants.{Whole, Cut}
@@ -19,9 +20,9 @@ use Rattle.gates.specs.declared.Gate.the-variants.{Open, Call, Symbol, High}
 use Rattle.farthingmoss.specs.declared.Answer.{Answer}
 use Rattle.farthingmoss.specs.declared.Answer.the-variants.{Answered, NoSymbol, NotAscii, NoDerivation, TooDeep, NoNode, NoRoom, BadCall, BadTable}
 use Rattle.gates.specs.Gates.{gate, highAt, symbolGate}
-use Rattle.farthingmoss.specs.Call.{through, fitted, filled, demangled, rooted, rootHeight, rootAnswer, writtenAlone, nameOk, nameAnswer}
+use Rattle.farthingmoss.specs.Call.{through, fitted, refusal, filled, demangled, rooted, rootHeight, rootAnswer, writtenAlone, nameOk, nameAnswer}
 use Rattle.promises.specs.Promises.{says, ReadNumbers, WriteNumbers, NameNumbers, Reports, ZeroCounts}
-use Rattle.promises.proofs.Reading.{said, open-answers}
+use Rattle.promises.proofs.Reading.{said, said-any, open-answers}
 
 five : (l : List ℕ) (a b c d e : ℕ) → length l ≡ 5 → filled l a b c d e ≡ a ∷ b ∷ c ∷ d ∷ e ∷ []
 five [] a b c d e h = absurd (omega (arith, h))
@@ -58,16 +59,13 @@ zero-counts BadTable e = refl
 abbrev Read : Answer → Type 0
 Read a = says (0 ∷ 1 ∷ 2 ∷ 3 ∷ 4 ∷ 5 ∷ 6 ∷ 7 ∷ []) a ≡ true
 
-fitted-number : (offset depth nodes room k : ℕ) (b : Bool) → Read (fitted offset depth nodes room (pick b (Whole k) Cut))
-fitted-number offset depth nodes room k true = refl
-fitted-number offset depth nodes room k false = refl
+refusal-number : (why : Refusal) (at : ℕ) → Read (refusal why at)
+refusal-number Syntax at = refl
+refusal-number Deep at = refl
+refusal-number Full at = refl
 
 said-number : (f : ℕ) (s : List ℕ) (room : ℕ) (r : Reply ℕ) (st : State) (ns : List Node) → Read (said f s room r st ns)
-unfolding written
-said-number f s room (found n) st ns = fitted-number (st .at) (st .deep) (st .used) room _ (leb _ room)
-said-number f s room (refused Syntax) st ns = refl
-said-number f s room (refused Deep) st ns = refl
-said-number f s room (refused Full) st ns = refl
+said-number = said-any Read (λ c. refl) (λ c. refl) refusal-number
 
 read-by : (f depth : ℕ) (s t : List ℕ) (room : ℕ) (g : Gate) → gate f depth s ≡ g → (g ≡ Open → Read (demangled f depth s t room)) → Read (demangled f depth s t room)
 unfolding demangled
