@@ -4,9 +4,11 @@
 //! usage: hostile LIMIT STACK [LIST]
 //!
 //! No call may take more than LIMIT milliseconds; all are made on a thread with a stack of STACK KiB.
-//! Each symbol is read into 1,024 and into 8,192 nodes, with room for 4,096 bytes, under two flag
-//! words; the table that is left is written alone and asked for its names; of one symbol every prefix
-//! is read. The symbols are written to the file LIST, one a line.
+//! Each symbol is read into 1,024 nodes and into as many as the longest symbol may have, with room for
+//! 4,096 bytes, under two flag words; the table that is left is written alone and asked for its names;
+//! of one symbol every prefix is read. Lists of empty packs take as long as the room and their length,
+//! multiplied: they have four times LIMIT for each 4,096 bytes of room, and two of them are read with
+//! room for 65,536 bytes too. The symbols are written to the file LIST, one a line.
 // Of these modules only a part is used here.
 #[allow(dead_code)]
 mod asking;
@@ -24,6 +26,7 @@ mod towers;
 #[allow(dead_code)]
 mod writing;
 
+use std::cmp::Reverse;
 use std::process::ExitCode;
 use std::time::Duration;
 use std::{env, fs, io, thread};
@@ -35,6 +38,9 @@ use writing::Report;
 
 const TABLES: [usize; 2] = [1024, MOST_NODES];
 const ROOM: usize = 4096;
+const MOST_ROOM: usize = 65536;
+/// Empty packs have so many times the limit for each `ROOM` of room.
+const BY_ROOM: usize = 4;
 /// No bits; and the one by which more entries of a list write nothing.
 const FLAGS: [u32; 2] = [0, 0x0010_0000];
 /// A call over the limit is made so often: other programs may have slowed it down.
@@ -43,24 +49,43 @@ const SHOWN: usize = 5;
 
 struct Trial {
     limit: Duration,
+    room: usize,
     table: Vec<u32>,
     text: Vec<u8>,
     answers: Reasons,
-    /// What took how long.
-    times: Vec<(Duration, String)>,
+    times: Vec<Timed>,
+}
+
+struct Timed {
+    time: Duration,
+    limit: Duration,
+    what: String,
+}
+
+impl Timed {
+    fn is_slow(&self) -> bool {
+        self.time > self.limit
+    }
 }
 
 impl Trial {
+    fn new(limit: Duration) -> Trial {
+        let (table, text) = (vec![0; MOST_NODES * CELLS], vec![0; MOST_ROOM]);
+        let (answers, times) = (Reasons::default(), Vec::new());
+        Trial { limit, room: ROOM, table, text, answers, times }
+    }
+
     fn time(&mut self, what: String, mut call: impl FnMut(&mut [u32], &mut [u8])) {
         let mut least = Duration::MAX;
         for _ in 0..TIMES {
-            let time = clock::spent(|| call(&mut self.table, &mut self.text));
-            least = least.min(time);
+            let text = &mut self.text[..self.room];
+            least = least.min(clock::spent(|| call(&mut self.table, text)));
             if least <= self.limit {
                 break;
             }
         }
-        self.times.push((least, what));
+        let what = format!("{what}, in room {}", self.room);
+        self.times.push(Timed { time: least, limit: self.limit, what });
     }
 
     /// A reading; the nodes that it leaves.
@@ -86,7 +111,7 @@ impl Trial {
         });
     }
 
-    fn try_symbol(&mut self, Hostile { what, symbol }: &Hostile) {
+    fn try_symbol(&mut self, Hostile { what, symbol, .. }: &Hostile) {
         for nodes in TABLES {
             for flags in FLAGS {
                 let left = self.read(what, symbol, flags, nodes);
@@ -98,34 +123,59 @@ impl Trial {
         }
     }
 
+    /// Tries something in this room, where the time depends on it.
+    fn by_room(&mut self, room: usize, work: impl FnOnce(&mut Trial)) {
+        let limit = self.limit;
+        self.limit = limit * (BY_ROOM * room / ROOM) as u32;
+        self.room = room;
+        work(self);
+        (self.room, self.limit) = (ROOM, limit);
+    }
+
+    fn try_filling(&mut self, Hostile { what, symbol, .. }: &Hostile) {
+        self.by_room(MOST_ROOM, |trial| {
+            trial.read(what, symbol, FLAGS[0], MOST_NODES);
+        });
+    }
+
     fn try_prefixes(&mut self, symbol: &[u8]) {
         for end in 0..symbol.len() {
             self.read("a prefix of a long symbol", &symbol[..end], FLAGS[0], MOST_NODES);
         }
     }
 
-    /// Whether a call took too long.
-    fn print(&mut self) -> bool {
-        self.times.sort();
-        self.times.reverse();
-        for (time, what) in self.times.iter().take(SHOWN) {
+    fn print_slowest(&self, among: impl Fn(&Timed) -> bool) {
+        for Timed { time, what, .. } in self.times.iter().filter(|it| among(it)).take(SHOWN) {
             println!("hostile: {:.1} ms: {what}", time.as_secs_f64() * 1000.0);
         }
+    }
+
+    /// Whether a call took too long.
+    fn print(&mut self) -> bool {
+        self.times.sort_by_key(|it| Reverse(it.time));
+        self.print_slowest(|it| it.limit != self.limit);
+        self.print_slowest(|it| it.limit == self.limit);
         self.answers.print("hostile: readings");
-        let slow = self.times.iter().filter(|(time, _)| *time > self.limit).count();
-        let limit = self.limit.as_millis();
+        let slow = self.times.iter().filter(|it| it.is_slow()).count();
         println!(
-            "hostile: {} calls, {slow} of them over {limit} ms of processor time",
-            self.times.len()
+            "hostile: {} calls, {slow} of them over {} ms of processor time, \
+             for empty packs over {BY_ROOM} times that for each {ROOM} bytes of room",
+            self.times.len(),
+            self.limit.as_millis()
         );
         slow > 0
     }
 }
 
 fn is_too_slow(limit: Duration, symbols: Vec<Hostile>) -> bool {
-    let (table, text) = (vec![0; MOST_NODES * CELLS], vec![0; ROOM]);
-    let mut trial = Trial { limit, table, text, answers: Reasons::default(), times: Vec::new() };
-    symbols.iter().for_each(|hostile| trial.try_symbol(hostile));
+    let mut trial = Trial::new(limit);
+    for hostile in &symbols {
+        match hostile.by_room {
+            true => trial.by_room(ROOM, |trial| trial.try_symbol(hostile)),
+            false => trial.try_symbol(hostile),
+        }
+    }
+    symbols::filling().iter().for_each(|hostile| trial.try_filling(hostile));
     trial.try_prefixes(&symbols::long_symbol());
     trial.print()
 }

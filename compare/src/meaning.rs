@@ -1,7 +1,9 @@
-//! Compares the product's equality of meaning with a plain recursion, on small random tables, and
-//! times it on towers that make a plain recursion exponential.
+//! Compares the product's equality of meaning with a plain recursion on small random tables, with a
+//! number for each meaning on larger ones, and times it on towers that make a plain recursion
+//! exponential and on tables of as many nodes as a symbol of 16,384 bytes may have.
 mod decode;
 
+use std::collections::HashMap;
 use std::process::ExitCode;
 use std::time::{Duration, Instant};
 
@@ -49,18 +51,34 @@ fn own(cells: &[u32], symbol: &[u8]) -> (u32, Vec<u32>, Vec<u8>) {
     }
 }
 
-/// The plain recursion: a reference is a node's number and one, and names an earlier node or nothing.
+/// The reference in cell j of what r names: it names an earlier node or nothing.
+fn kid(cells: &[u32], r: usize, j: usize) -> usize {
+    match cells[j] as usize {
+        reference if reference < r => reference,
+        _ => 0,
+    }
+}
+
+/// The plain recursion: a reference is a node's number and one.
 fn plainly_same(table: &[u32], symbol: &[u8], r: usize, q: usize) -> bool {
     if r == 0 || q == 0 {
         return r == q;
     }
     let (a, b) = (&table[(r - 1) * CELLS..r * CELLS], &table[(q - 1) * CELLS..q * CELLS]);
-    let kid = |cells: &[u32], n: usize, j: usize| match cells[j] as usize {
-        reference if reference < n => reference,
-        _ => 0,
-    };
     own(a, symbol) == own(b, symbol)
         && (4..7).all(|j| plainly_same(table, symbol, kid(a, r, j), kid(b, q, j)))
+}
+
+/// A number for each reference, the same for those of equal meaning.
+fn meanings(table: &[u32], symbol: &[u8]) -> Vec<usize> {
+    let mut known = HashMap::new();
+    let mut numbers = vec![0];
+    for (n, cells) in table.chunks_exact(CELLS).enumerate() {
+        let kids = [4, 5, 6].map(|j| numbers[kid(cells, n + 1, j)]);
+        let next = known.len() + 1;
+        numbers.push(*known.entry((own(cells, symbol), kids)).or_insert(next));
+    }
+    numbers
 }
 
 /// A small generator with a fixed seed, so that each run tries the same tables.
@@ -117,6 +135,51 @@ fn random_tables_differ(tables: usize) -> bool {
     false
 }
 
+/// The nodes of a large table, and of a layer of it.
+const NODES: u32 = 300;
+const LAYER: u32 = 6;
+
+/// On tables of so many nodes that most questions are answered with links.
+fn large_tables_differ(tables: usize) -> bool {
+    let symbol = b"aa?$GBaa";
+    let mut random = Random(2);
+    let (mut compared, mut equal) = (0usize, 0usize);
+    for _ in 0..tables {
+        let table = large_table(&mut random);
+        let numbers = meanings(&table, symbol);
+        for _ in 0..100 {
+            let layer = random.below(NODES / LAYER) * LAYER;
+            let [r, q] = [0; 2].map(|_| (layer + 1 + random.below(LAYER)) as usize);
+            let expected = numbers[r] == numbers[q];
+            compared += 1;
+            equal += usize::from(expected && r != q);
+            if same(&table, symbol, r, q) != expected {
+                println!("meaning: references {r} and {q} differ in {table:?}");
+                return true;
+            }
+        }
+    }
+    println!(
+        "meaning: {compared} pairs in {tables} tables of {NODES} nodes as by numbers of meanings, \
+         {equal} of different nodes equal"
+    );
+    false
+}
+
+/// Layers of nodes that refer to the layer below, in few ways, so that many are equal and all are large.
+fn large_table(random: &mut Random) -> Vec<u32> {
+    let (kinds, ways) = (1 + random.below(2), 1 + random.below(LAYER));
+    let mut table = Vec::new();
+    for n in 0..NODES {
+        let below = (n / LAYER).saturating_sub(1) * LAYER;
+        let mut reference = || if n < LAYER { 0 } else { below + 1 + random.below(ways) };
+        let references = [reference(), reference(), reference()];
+        let kind = [TYPE_PLACE, CLASS][random.below(kinds) as usize];
+        table.extend([kind, 0, 0, 0].iter().chain(&references).chain(&[0; 5]));
+    }
+    table
+}
+
 /// A class whose template arguments are `width` times the tower below it; its reference.
 fn tower(table: &mut Vec<u32>, levels: usize, width: usize) -> u32 {
     let mut node = |kind: u32, a: u32, b: u32, numbers: [u32; 2]| {
@@ -146,10 +209,30 @@ fn list(table: &mut Vec<u32>, places: usize) -> u32 {
     before
 }
 
+/// The same list with an entry of its own for each place.
+fn spelled(table: &mut Vec<u32>, places: usize) -> u32 {
+    let mut before = 0;
+    for _ in 0..places {
+        table.extend([INT, 0, 0, 0, 0, 0, 0, 0, 0, 0, 0, 0]);
+        let entry = (table.len() / CELLS) as u32;
+        table.extend([TYPE_PLACE, 0, 0, 0, before, entry, 0, 0, 0, 0, 0, 0]);
+        before = entry + 1;
+    }
+    before
+}
+
 /// Whether the comparison of two equal things, built apart in one table, is slow or says no.
 fn is_slow(what: &str, build: impl Fn(&mut Vec<u32>) -> u32) -> bool {
+    are_slow(what, &build, &build)
+}
+
+fn are_slow(
+    what: &str,
+    first: impl Fn(&mut Vec<u32>) -> u32,
+    second: impl Fn(&mut Vec<u32>) -> u32,
+) -> bool {
     let mut table = Vec::new();
-    let (r, q) = (build(&mut table) as usize, build(&mut table) as usize);
+    let (r, q) = (first(&mut table) as usize, second(&mut table) as usize);
     let mut equal = true;
     let time = (0..TIMES).map(|_| {
         let start = Instant::now();
@@ -163,8 +246,15 @@ fn is_slow(what: &str, build: impl Fn(&mut Vec<u32>) -> u32) -> bool {
 
 fn main() -> ExitCode {
     let failed = random_tables_differ(20_000)
+        | large_tables_differ(500)
         | is_slow("towers of 60 levels, two references each", |t| tower(t, 60, 2))
         | is_slow("towers of 60 levels, four references each", |t| tower(t, 60, 4))
-        | is_slow("lists of 4,000 places", |t| list(t, 4_000));
+        | is_slow("towers of 100 levels, 150 references each", |t| tower(t, 100, 150))
+        | is_slow("lists of 16,000 places", |t| list(t, 16_000))
+        | are_slow(
+            "lists of 10,000 places, one of one entry",
+            |t| spelled(t, 10_000),
+            |t| list(t, 10_000),
+        );
     ExitCode::from(u8::from(failed))
 }

@@ -9,7 +9,7 @@ use lib.Dec.{eqb}
 use borrow.Author.Tests.{eq-eqb, ne-eqb}
 use Rattle.meaning.specs.Tree.{treeOf, kidOf, eqTree, eqOwn}
 use Rattle.meaning.specs.Links.{Judged}
-use Rattle.meaning.proofs.Trees.{eqTree-refl, tree-none, tree-is}
+use Rattle.meaning.proofs.Trees.{eqTree-refl, eqTree-sound, tree-none, tree-is}
 
 and-false : (a : Bool) → a && false ≡ false
 and-false true = refl
@@ -23,6 +23,16 @@ and-true : (a : Bool) → a && true ≡ a
 and-true true = refl
 and-true false = refl
 
+-- judged at once
+pub judged-no : {e : Bool} → e ≡ false → Judged e 0
+judged-no p = record { no = λ z. p; yes = λ h. absurd (omega arith) }
+
+pub judged-yes : {e : Bool} {v : ℕ} → e ≡ true → 2 ≤ v → Judged e v
+judged-yes p h = record { no = λ z. absurd (omega arith); yes = λ g. p }
+
+pub judged-spent : {e : Bool} → Judged e 1
+judged-spent = record { no = λ z. absurd (omega arith); yes = λ h. absurd (omega arith) }
+
 pub at-same : (t y : List ℕ) {r q s p : ℕ} → r ≡ s → q ≡ p → eqTree (treeOf t y r) (treeOf t y q) ≡ eqTree (treeOf t y s) (treeOf t y p)
 at-same t y = ap₂ (λ r q. eqTree (treeOf t y r) (treeOf t y q))
 
@@ -31,7 +41,7 @@ module _ (t y : List ℕ) (r q : ℕ) where
   same-place e = ap (λ x. eqTree (treeOf t y r) (treeOf t y x)) (sym e) ∙ eqTree-refl (treeOf t y r)
 
   pub judged-same : {v : ℕ} → r ≡ q → 2 ≤ v → Judged (eqTree (treeOf t y r) (treeOf t y q)) v
-  judged-same e h = record { no = λ z. absurd (omega arith); yes = λ g. same-place e }
+  judged-same e h = judged-yes (same-place e) h
 
   pub same-none : r ≡ 0 → (r ≡ q → ⊥) → eqTree (treeOf t y r) (treeOf t y q) ≡ false
   unfolding eqTree
@@ -40,6 +50,13 @@ module _ (t y : List ℕ) (r q : ℕ) where
   pub same-one : q ≡ 0 → (r ≡ q → ⊥) → eqTree (treeOf t y r) (treeOf t y q) ≡ false
   unfolding eqTree
   same-one z n = rw (tree-none t y q z, tree-is t y r (omega (arith, n)))
+
+  pub none-one : r ≡ 0 → eqb q 0 ≡ eqTree (treeOf t y r) (treeOf t y q)
+  none-one z = pick (ℕ-discrete q 0)
+    where
+      pick : Dec (q ≡ 0) → eqb q 0 ≡ eqTree (treeOf t y r) (treeOf t y q)
+      pick (yes e) = eq-eqb q 0 e ∙ sym (same-place (z ∙ sym e))
+      pick (no n) = ne-eqb q 0 n ∙ sym (same-none z (λ e. n (sym e ∙ z)))
 
   -- references of equal meaning that differ name nodes, and so do their first references
   pub tree-low : treeOf t y r ≡ treeOf t y q → (r ≡ q → ⊥) → (1 ≤ r) × (1 ≤ q)
@@ -78,6 +95,10 @@ module _ (t y : List ℕ) {r q a d : ℕ} {o : Bool} (hr : 1 ≤ r) (hq : 1 ≤ 
   not-own z = step ∙ rw z
 
   module _ (ok : o ≡ true) where
+    -- by what the references are
+    pub all-same : a ≡ d → kidOf t (r - 1) 5 ≡ kidOf t (q - 1) 5 → kidOf t (r - 1) 6 ≡ kidOf t (q - 1) 6 → treeOf t y r ≡ treeOf t y q
+    all-same e f g = eqTree-sound _ _ (step ∙ rw (ok, same-place t y a d e, same-place t y _ _ f) (same-place t y _ _ g))
+
     -- within a budget: one after the other
     pub judged-all : {v : ℕ} → Judged ((first && second) && third) v → Judged (eqTree (treeOf t y r) (treeOf t y q)) v
     judged-all j = record { no = λ z. step ∙ rw ok (sym (and-and first second third) ∙ j .no z); yes = λ h. step ∙ rw ok (sym (and-and first second third) ∙ j .yes h) }

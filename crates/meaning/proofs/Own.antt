@@ -10,6 +10,7 @@ use borrow.Author.Tests.{eq-eqb, ne-eqb, le-leb, lt-leb, eqb-true}
 use Rattle.node.specs.Cells.{cellOf}
 use Rattle.scan.proofs.Laws.{split, past}
 use Rattle.meaning.specs.Tree.{part, decoded, contentOf, numbersOf, bytesOf, eqList, eqOwn, eqContent}
+use Rattle.meaning.proofs.Trees.{eqList-refl}
 
 -- the bytes of a name
 pub part-in : (l : List ℕ) (s n : ℕ) → s + n ≤ length l → take (s + n - s) (drop s l) ≡ part l s n
@@ -106,3 +107,27 @@ module _ (t s : List ℕ) (i j : ℕ) where
             pick : (b : Bool) → eqb (contentOf (cellOf t i 0)) 0 ≡ b → eqOwn t s i j ≡ eqContent t s i j
             pick true z = own-numbers z
             pick false z = own-bytes z
+
+  -- told by the content alone
+  pub own-not : eqb (cellOf t i 0) (cellOf t j 0) ≡ true → eqContent t s i j ≡ false → eqOwn t s i j ≡ false
+  own-not e0 z = pick (eqb (cellOf t i 9) (cellOf t j 9)) (eqb (cellOf t i 10) (cellOf t j 10)) refl refl
+    where
+      pick : (b d : Bool) → eqb (cellOf t i 9) (cellOf t j 9) ≡ b → eqb (cellOf t i 10) (cellOf t j 10) ≡ d → eqOwn t s i j ≡ false
+      pick false d e9 e10 = own-9 e0 e9
+      pick true false e9 e10 = own-10 e0 e9 e10
+      pick true true e9 e10 = own-content e0 e9 e10 ∙ z
+
+-- nodes of one kind and with the same numbers
+module _ (t s : List ℕ) (i j : ℕ) (e0 : eqb (cellOf t i 0) (cellOf t j 0) ≡ true) (e7 : eqb (cellOf t i 7) (cellOf t j 7) ≡ true) (e8 : eqb (cellOf t i 8) (cellOf t j 8) ≡ true) where
+  bytes-same : bytesOf t s i ≡ bytesOf t s j
+  unfolding bytesOf
+  bytes-same = rw (eqb-true (cellOf t i 0) (cellOf t j 0) e0, eqb-true (cellOf t i 7) (cellOf t j 7) e7, eqb-true (cellOf t i 8) (cellOf t j 8) e8)
+
+  module _ (e9 : eqb (cellOf t i 9) (cellOf t j 9) ≡ true) (e10 : eqb (cellOf t i 10) (cellOf t j 10) ≡ true) where
+    numbers-same : numbersOf t i ≡ numbersOf t j
+    unfolding numbersOf
+    numbers-same = rw (eqb-true (cellOf t i 0) (cellOf t j 0) e0, eqb-true (cellOf t i 7) (cellOf t j 7) e7, eqb-true (cellOf t i 8) (cellOf t j 8) e8, eqb-true (cellOf t i 9) (cellOf t j 9) e9, eqb-true (cellOf t i 10) (cellOf t j 10) e10)
+
+    pub own-same : eqOwn t s i j ≡ true
+    unfolding eqOwn
+    own-same = rw (e0, numbers-same, bytes-same, eqList-refl (numbersOf t j)) (eqList-refl (bytesOf t s j))

@@ -1,6 +1,6 @@
 -- The laws of trees: what a reference means, and equality. Assumes nothing.
 --     tree-none, tree-is      what a reference means
---     tree-same               eqTree says whether trees are equal
+--     tree-same, tree-other   eqTree says whether trees are equal
 --     at-of                   what r means to node n, where that is not below
 --     tree-kept               nodes added behind a node change nothing of what it means
 use Prim.Native.Nat.{ℕ, zero, suc, _+_, _-_, _≤_, _<_}
@@ -63,6 +63,13 @@ eqTree-sound (node k x s a b c) (node l y u d f g) e =
 
 pub tree-same : (a b : Tree) → (eqTree a b ≡ true) ↔ (a ≡ b)
 tree-same a b = (eqTree-sound a b, λ e. ap (eqTree a) (sym e) ∙ eqTree-refl a)
+
+pub tree-other : (a b : Tree) → (eqTree a b ≡ false) ↔ (a ≡ b → ⊥)
+tree-other a b = (λ z e. true-false (sym (tree-same a b .1 e) ∙ z), λ n. pick n (eqTree a b) refl)
+  where
+    pick : (a ≡ b → ⊥) → (x : Bool) → eqTree a b ≡ x → eqTree a b ≡ false
+    pick n true e = absurd (n (eqTree-sound a b e))
+    pick n false e = e
 
 -- what references mean
 pub tree-none : (t y : List ℕ) (r : ℕ) → r ≡ 0 → treeOf t y r ≡ none

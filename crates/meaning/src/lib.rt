@@ -2,11 +2,19 @@
 ghost use mathlib.Core.Path.{_≡_};
 ghost use Prim.Native.Nat.{ℕ, _≤_, _<_, _^_};
 ghost use lib.Dec.{eqb};
-ghost use mathlib.Core.Bool.{Bool, _&&_};
+ghost use mathlib.Core.Bool.{Bool, true, false, _&&_};
 ghost use mathlib.Core.List.{List};
 ghost use Rattle.node.specs.Cells.{nodes, cellOf};
 ghost use Rattle.meaning.specs.Tree.{part, decoded, contentOf, treeOf, kidOf, blankTree, eqList, eqTree, eqContent, eqOwn};
-ghost use Rattle.meaning.specs.Links.{Falls, Links, Root, Joins, Judged};
+ghost use Rattle.meaning.specs.Links.{Links, Judged};
+
+pub mod links;
+
+use crate::links::NOTES;
+use crate::links::find;
+use crate::links::link;
+use crate::links::note;
+use crate::links::noted;
 use scan::cursor::Leaf;
 use strings::encoded::read_character;
 
@@ -169,59 +177,92 @@ fn same_own(table: &[u32], symbol: &[u8], i: usize, j: usize) -> bool
     false
 }
 
-// How many nodes can be linked: as many as a reading may count. Those past it are compared too, and never linked.
-const LINKS: usize = 8192;
-
-// Where the links lead from r.
-fn find(links: &[u16; LINKS], r: usize) -> usize
-    requires { ⌜ Falls (now links) ⌝ }
-    ensures { λ x. ⌜ Root (now (links .entry)) r x ⌝ }
+// Whether nodes i and j may hold the same: most that do not are told by their cells, before any bytes are looked at.
+fn alike(table: &[u32], symbol: &[u8], i: usize, j: usize) -> bool
+    requires { ⌜ (i < nodes (now table)) × (j < nodes (now table)) ⌝ }
+    ensures { λ x. ⌜ (x ≡ false → eqOwn (now (table .entry)) (now (symbol .entry)) i j ≡ false) ⌝ }
 {
-    let mut p = r;
-    while 0 < p {
-        if LINKS < p {
-            break;
-        }
-        let i = p - 1;
-        let y = links[i] as usize;
-        if y == 0 {
-            break;
-        }
-        p = y;
+    if !same_cell(table, i, j, 0) {
+        return false;
     }
-    p
+    let what = content(at(table, i, 0));
+    if what == 0 {
+        return same_cell(table, i, j, 7);
+    }
+    if what == 1 {
+        let a = bytes_at(table, symbol, i);
+        let b = bytes_at(table, symbol, j);
+        return a.len() == b.len();
+    }
+    true
 }
 
-// Links x to y, where x has a link at all.
-fn point(links: &mut [u16; LINKS], x: usize, y: usize)
-    requires { ⌜ y < x ⌝ }
-    ensures { λ _. ⌜ Joins (now (links .entry)) (now (links .exit)) x y ⌝ }
+// Whether r and q are told to mean the same by their cells alone: one reference, or nodes with the same cells.
+fn twins(table: &[u32], r: usize, q: usize) -> bool
+    requires { ⌜ (r ≤ nodes (now table)) × (q ≤ nodes (now table)) ⌝ }
+    ensures { λ x. ⌜ ((s : List ℕ) → x ≡ true → treeOf (now (table .entry)) s r ≡ treeOf (now (table .entry)) s q) ⌝ }
 {
-    if x <= LINKS {
-        let i = x - 1;
-        links[i] = y as u16;
+    if r == q {
+        return true;
     }
+    if r == 0 {
+        return false;
+    }
+    if q == 0 {
+        return false;
+    }
+    let i = r - 1;
+    let j = q - 1;
+    if kid_at(table, i, 4) != kid_at(table, j, 4) {
+        return false;
+    }
+    if kid_at(table, i, 5) != kid_at(table, j, 5) {
+        return false;
+    }
+    if kid_at(table, i, 6) != kid_at(table, j, 6) {
+        return false;
+    }
+    same_numbers(table, i, j)
 }
 
-// Links the larger of the two to the smaller.
-fn link(links: &mut [u16; LINKS], x: usize, y: usize)
-    requires { ⌜ (x ≡ y → ⊥) ⌝ }
-    ensures { λ _. ⌜ Joins (now (links .entry)) (now (links .exit)) x y ⌝ }
+// Whether nodes i and j have one kind and the same numbers.
+fn same_numbers(table: &[u32], i: usize, j: usize) -> bool
+    requires { ⌜ (i < nodes (now table)) × (j < nodes (now table)) ⌝ }
+    ensures { λ x. ⌜ ((s : List ℕ) → x ≡ true → eqOwn (now (table .entry)) s i j ≡ true) ⌝ }
 {
-    if x < y {
-        point(links, y, x);
-        return;
+    if !same_cell(table, i, j, 0) {
+        return false;
     }
-    point(links, x, y);
+    if !same_cell(table, i, j, 7) {
+        return false;
+    }
+    if !same_cell(table, i, j, 8) {
+        return false;
+    }
+    if !same_cell(table, i, j, 9) {
+        return false;
+    }
+    same_cell(table, i, j, 10)
+}
+
+// Whether r and q are told to mean the same by their cells, or by links.
+fn met(table: &[u32], symbol: &[u8], links: &mut [u16], r: usize, q: usize) -> bool
+    requires { ⌜ (r ≤ nodes (now table)) × (q ≤ nodes (now table)) × Links (treeOf (now table) (now symbol)) (now links) ⌝ }
+    ensures { λ x. ⌜ (x ≡ true → treeOf (now (table .entry)) (now (symbol .entry)) r ≡ treeOf (now (table .entry)) (now (symbol .entry)) q) × Links (treeOf (now (table .entry)) (now (symbol .entry))) (now (links .exit)) ⌝ }
+{
+    if twins(table, r, q) {
+        return true;
+    }
+    find(links, r) == find(links, q)
 }
 
 // Links two references of equal meaning, and so on along their chains of first references.
-fn join(table: &[u32], symbol: &[u8], links: &mut [u16; LINKS], r: usize, q: usize)
+fn join(table: &[u32], symbol: &[u8], links: &mut [u16], r: usize, q: usize)
     requires { ⌜ (r ≤ nodes (now table)) × (q ≤ nodes (now table)) × Links (treeOf (now table) (now symbol)) (now links) × (treeOf (now table) (now symbol) r ≡ treeOf (now table) (now symbol) q) ⌝ }
     ensures { λ _. ⌜ Links (treeOf (now (table .entry)) (now (symbol .entry))) (now (links .exit)) ⌝ }
 {
-    let mut x = find(links, r);
-    let mut y = find(links, q);
+    let mut x = r;
+    let mut y = q;
     while x != y {
         let i = x - 1;
         let j = y - 1;
@@ -231,33 +272,67 @@ fn join(table: &[u32], symbol: &[u8], links: &mut [u16; LINKS], r: usize, q: usi
     }
 }
 
-// The references in cell c of nodes i and j: most are equal as they stand, and need no walk.
-fn linked_kid(
-    table: &[u32],
-    symbol: &[u8],
-    links: &mut [u16; LINKS],
-    i: usize,
-    j: usize,
-    c: usize,
-) -> bool
-    requires { ⌜ (i < nodes (now table)) × (j < nodes (now table)) × (c < 12) × Links (treeOf (now table) (now symbol)) (now links) ⌝ }
-    ensures { λ x. ⌜ (x ≡ eqTree (treeOf (now (table .entry)) (now (symbol .entry)) (kidOf (now (table .entry)) i c)) (treeOf (now (table .entry)) (now (symbol .entry)) (kidOf (now (table .entry)) j c))) × Links (treeOf (now (table .entry)) (now (symbol .entry))) (now (links .exit)) ⌝ }
+// How many steps along first references end in a note if the rest differs.
+const STRETCH: usize = 64;
+
+// Whether r and q mean the same: links to what is found equal, and a note of what is found to differ.
+fn linked(table: &[u32], symbol: &[u8], links: &mut [u16], r: usize, q: usize) -> bool
+    requires { ⌜ (r ≤ nodes (now table)) × (q ≤ nodes (now table)) × Links (treeOf (now table) (now symbol)) (now links) ⌝ }
+    ensures { λ x. ⌜ (x ≡ eqTree (treeOf (now (table .entry)) (now (symbol .entry)) r) (treeOf (now (table .entry)) (now (symbol .entry)) q)) × Links (treeOf (now (table .entry)) (now (symbol .entry))) (now (links .exit)) ⌝ }
 {
-    let r = kid_at(table, i, c);
-    let q = kid_at(table, j, c);
+    let x = find(links, r);
+    let y = find(links, q);
+    if x == y {
+        return true;
+    }
+    if x == 0 {
+        return false;
+    }
+    if y == 0 {
+        return false;
+    }
+    if walk(table, symbol, links, x, y) {
+        join(table, symbol, links, x, y);
+        return true;
+    }
+    note(links, x, y);
+    false
+}
+
+// The second references of nodes i and j: entries of lists, mostly, of which most are told at once.
+fn second(table: &[u32], symbol: &[u8], links: &mut [u16], i: usize, j: usize) -> bool
+    requires { ⌜ (i < nodes (now table)) × (j < nodes (now table)) × Links (treeOf (now table) (now symbol)) (now links) ⌝ }
+    ensures { λ x. ⌜ (x ≡ eqTree (treeOf (now (table .entry)) (now (symbol .entry)) (kidOf (now (table .entry)) i 5)) (treeOf (now (table .entry)) (now (symbol .entry)) (kidOf (now (table .entry)) j 5))) × Links (treeOf (now (table .entry)) (now (symbol .entry))) (now (links .exit)) ⌝ }
+{
+    let r = kid_at(table, i, 5);
+    let q = kid_at(table, j, 5);
+    if met(table, symbol, links, r, q) {
+        return true;
+    }
+    linked(table, symbol, links, r, q)
+}
+
+// The third references of nodes i and j: few kinds have one.
+fn third(table: &[u32], symbol: &[u8], links: &mut [u16], i: usize, j: usize) -> bool
+    requires { ⌜ (i < nodes (now table)) × (j < nodes (now table)) × Links (treeOf (now table) (now symbol)) (now links) ⌝ }
+    ensures { λ x. ⌜ (x ≡ eqTree (treeOf (now (table .entry)) (now (symbol .entry)) (kidOf (now (table .entry)) i 6)) (treeOf (now (table .entry)) (now (symbol .entry)) (kidOf (now (table .entry)) j 6))) × Links (treeOf (now (table .entry)) (now (symbol .entry))) (now (links .exit)) ⌝ }
+{
+    let r = kid_at(table, i, 6);
+    let q = kid_at(table, j, 6);
     if r == q {
         return true;
     }
     linked(table, symbol, links, r, q)
 }
 
-// Recursion over the second and the third references and a loop along the first, with links between those found equal.
-fn linked(table: &[u32], symbol: &[u8], links: &mut [u16; LINKS], r: usize, q: usize) -> bool
+// Recursion over the second and the third references and a loop along the first.
+fn walk(table: &[u32], symbol: &[u8], links: &mut [u16], r: usize, q: usize) -> bool
     requires { ⌜ (r ≤ nodes (now table)) × (q ≤ nodes (now table)) × Links (treeOf (now table) (now symbol)) (now links) ⌝ }
     ensures { λ x. ⌜ (x ≡ eqTree (treeOf (now (table .entry)) (now (symbol .entry)) r) (treeOf (now (table .entry)) (now (symbol .entry)) q)) × Links (treeOf (now (table .entry)) (now (symbol .entry))) (now (links .exit)) ⌝ }
 {
-    let mut x = find(links, r);
-    let mut y = find(links, q);
+    let mut x = r;
+    let mut y = q;
+    let mut left = STRETCH;
     while x != y {
         if x == 0 {
             return false;
@@ -265,45 +340,51 @@ fn linked(table: &[u32], symbol: &[u8], links: &mut [u16; LINKS], r: usize, q: u
         if y == 0 {
             return false;
         }
-        let i = x - 1;
-        let j = y - 1;
-        if same_own(table, symbol, i, j) {
-            if linked_kid(table, symbol, links, i, j, 5) {
-                if linked_kid(table, symbol, links, i, j, 6) {
-                    x = find(links, kid_at(table, i, 4));
-                    y = find(links, kid_at(table, j, 4));
-                } else {
-                    return false;
-                }
-            } else {
-                return false;
-            }
-        } else {
+        if noted(links, x, y) {
             return false;
         }
+        let i = x - 1;
+        let j = y - 1;
+        if !same_own(table, symbol, i, j) {
+            return false;
+        }
+        if !second(table, symbol, links, i, j) {
+            return false;
+        }
+        if !third(table, symbol, links, i, j) {
+            return false;
+        }
+        let a = kid_at(table, i, 4);
+        let b = kid_at(table, j, 4);
+        left -= 1;
+        if left == 0 {
+            return linked(table, symbol, links, a, b);
+        }
+        x = find(links, a);
+        y = find(links, b);
     }
-    join(table, symbol, links, r, q);
     true
 }
 
-// The whole comparison with links. 0: they differ; 2: they are the same.
-fn same_linked(table: &[u32], symbol: &[u8], r: usize, q: usize) -> usize
-    requires { ⌜ (r ≤ nodes (now table)) × (q ≤ nodes (now table)) ⌝ }
-    ensures { λ v. ⌜ Judged (eqTree (treeOf (now (table .entry)) (now (symbol .entry)) r) (treeOf (now (table .entry)) (now (symbol .entry)) q)) v × (v ≡ 1 → ⊥) ⌝ }
-{
-    let mut links = [0u16; LINKS];
-    if linked(table, symbol, &mut links, r, q) {
-        2
-    } else {
-        0
-    }
-}
-
-// The budget of a plain recursion: 128 visits, and 2.
-const VISITS: usize = 130;
+// The budget of a plain recursion: 32 visits to nodes without bytes, and 2.
+pub const VISITS: usize = 34;
 
 // The answer when the budget is spent.
-const SPENT: usize = 1;
+pub const SPENT: usize = 1;
+
+// So many bytes cost as much as a visit.
+const BYTES: usize = 16;
+
+// What a visit to node n takes from the budget: names may be long, and are compared byte by byte.
+fn cost_of(table: &[u32], n: usize) -> usize
+    requires { ⌜ n < nodes (now table) ⌝ }
+    ensures { λ r. ⌜ r < 2 ^ 32 ⌝ }
+{
+    if content(at(table, n, 0)) == 0 {
+        return 1;
+    }
+    at(table, n, 8) / BYTES + 1
+}
 
 // The references in cell c of nodes i and j, after others with this answer.
 fn plain_kid(table: &[u32], symbol: &[u8], i: usize, j: usize, c: usize, left: usize) -> usize
@@ -315,17 +396,16 @@ fn plain_kid(table: &[u32], symbol: &[u8], i: usize, j: usize, c: usize, left: u
     }
     let r = kid_at(table, i, c);
     let q = kid_at(table, j, c);
-    if r == q {
+    if twins(table, r, q) {
         return left;
     }
     plain(table, symbol, r, q, left)
 }
 
 // Plain recursion. 0: they differ; 1: the budget is spent; else they are the same, and this is left of the budget.
-// The outermost call, which has all of it, answers with links then. A caller would get the array of links into its frame; this calls itself, and does not.
 fn plain(table: &[u32], symbol: &[u8], r: usize, q: usize, left: usize) -> usize
     requires { ⌜ (r ≤ nodes (now table)) × (q ≤ nodes (now table)) × (2 ≤ left) ⌝ }
-    ensures { λ v. ⌜ Judged (eqTree (treeOf (now (table .entry)) (now (symbol .entry)) r) (treeOf (now (table .entry)) (now (symbol .entry)) q)) v × (left ≡ 130 → v ≡ 1 → ⊥) ⌝ }
+    ensures { λ v. ⌜ Judged (eqTree (treeOf (now (table .entry)) (now (symbol .entry)) r) (treeOf (now (table .entry)) (now (symbol .entry)) q)) v ⌝ }
 {
     if r == q {
         return left;
@@ -339,20 +419,15 @@ fn plain(table: &[u32], symbol: &[u8], r: usize, q: usize, left: usize) -> usize
     let i = r - 1;
     let j = q - 1;
     if same_own(table, symbol, i, j) {
-        if left == 2 {
+        let cost = cost_of(table, i);
+        if left < cost + 2 {
             return SPENT;
         }
         let x = kid_at(table, i, 4);
         let y = kid_at(table, j, 4);
-        let a = plain(table, symbol, x, y, left - 1);
+        let a = plain(table, symbol, x, y, left - cost);
         let b = plain_kid(table, symbol, i, j, 5, a);
-        let v = plain_kid(table, symbol, i, j, 6, b);
-        if v == SPENT {
-            if left == VISITS {
-                return same_linked(table, symbol, r, q);
-            }
-        }
-        return v;
+        return plain_kid(table, symbol, i, j, 6, b);
     }
     0
 }
@@ -382,15 +457,44 @@ fn blank(table: &[u32], r: usize) -> bool
     true
 }
 
-// Whether r and q mean the same. Most that are asked for differ in what they hold themselves.
-pub fn same(table: &[u32], symbol: &[u8], r: usize, q: usize) -> bool
-    ensures { λ x. ⌜ x ≡ eqTree (treeOf (now (table .entry)) (now (symbol .entry)) r) (treeOf (now (table .entry)) (now (symbol .entry)) q) ⌝ }
+// Yes or no as an answer within a budget.
+fn told(x: bool) -> usize
+    ensures { λ v. ⌜ Judged x v × (v ≡ 1 → ⊥) ⌝ }
 {
-    if r == q {
-        return true;
-    }
+    if x { 2 } else { 0 }
+}
+
+// Whether r and q mean the same, within a budget: 0 no, 1 it is spent, more yes. Most that are asked for differ in what they hold themselves.
+pub fn judge(table: &[u32], symbol: &[u8], r: usize, q: usize, left: usize) -> usize
+    requires { ⌜ 2 ≤ left ⌝ }
+    ensures { λ v. ⌜ Judged (eqTree (treeOf (now (table .entry)) (now (symbol .entry)) r) (treeOf (now (table .entry)) (now (symbol .entry)) q)) v ⌝ }
+{
     if r == 0 {
-        return false;
+        return told(q == 0);
+    }
+    if q == 0 {
+        return 0;
+    }
+    let n = node::room(table);
+    if n < r {
+        return told(blank(table, q));
+    }
+    if n < q {
+        return told(blank(table, r));
+    }
+    if alike(table, symbol, r - 1, q - 1) {
+        return plain(table, symbol, r, q, left);
+    }
+    0
+}
+
+// The same without a budget, and with links: those of several questions may stand in one slice.
+pub fn same_linked(table: &[u32], symbol: &[u8], links: &mut [u16], r: usize, q: usize) -> bool
+    requires { ⌜ Links (treeOf (now table) (now symbol)) (now links) ⌝ }
+    ensures { λ x. ⌜ (x ≡ eqTree (treeOf (now (table .entry)) (now (symbol .entry)) r) (treeOf (now (table .entry)) (now (symbol .entry)) q)) × Links (treeOf (now (table .entry)) (now (symbol .entry))) (now (links .exit)) ⌝ }
+{
+    if r == 0 {
+        return q == 0;
     }
     if q == 0 {
         return false;
@@ -402,8 +506,17 @@ pub fn same(table: &[u32], symbol: &[u8], r: usize, q: usize) -> bool
     if n < q {
         return blank(table, r);
     }
-    if same_own(table, symbol, r - 1, q - 1) {
-        return plain(table, symbol, r, q, VISITS) != 0;
+    linked(table, symbol, links, r, q)
+}
+
+// Whether r and q mean the same.
+pub fn same(table: &[u32], symbol: &[u8], r: usize, q: usize) -> bool
+    ensures { λ x. ⌜ x ≡ eqTree (treeOf (now (table .entry)) (now (symbol .entry)) r) (treeOf (now (table .entry)) (now (symbol .entry)) q) ⌝ }
+{
+    let v = judge(table, symbol, r, q, VISITS);
+    if v == SPENT {
+        let mut links = [0u16; NOTES];
+        return same_linked(table, symbol, &mut links, r, q);
     }
-    false
+    v != 0
 }

@@ -1,14 +1,14 @@
 -- The memo's entries, and whether one of the first of them is equal. Assumes nothing.
 use Prim.Native.Nat.{ℕ, _+_, _≤_, _<_}
 use mathlib.Core.Path.{_≡_, refl, sym, ap, _∙_}
-use mathlib.Core.List.{List}
+use mathlib.Core.List.{List, [], _∷_}
 use mathlib.Core.Bool.{Bool, true, false}
 use native.Mathlib.Omega.{arith}
 use native.Mathlib.Numerals.{add-one}
 use lib.ListN.{length, getD, take, drop, set, length-take, drop-of-length-le}
 use lib.Dec.{ltb}
 use borrow.Author.Tests.{lt-ltb, le-ltb}
-use lib.Seq.{drop-cons, getD-take}
+use lib.Seq.{drop-cons}
 use Rattle.scan.specs.Bytes.{pick}
 use Rattle.meaning.specs.Tree.{treeOf, eqTree}
 use Rattle.grammar.specs.Program.{Store, names, types, ret, fail, when, recall, run, anyOf, added, with}
@@ -20,22 +20,37 @@ use Rattle.steps.specs.Does.{Lent, full, refusedAt, foundAt, Finds, Keep
 use Rattle.steps.specs.declared.state.Spot.{Spot}
 use Rattle.steps.specs.declared.state.Got.{Got}
 
--- whether one of the first n is equal, from entry i on
-any-from : (f : ℕ → Bool) (l : List ℕ) (n i : ℕ) → i < n → n ≤ length l → anyOf f (drop i (take n l)) ≡ pick (f (getD l i 0)) true (anyOf f (drop (i + 1) (take n l)))
-any-from f l n i h m =
-    let k : i < length (take n l) = rw (length-take n l) (omega arith) in
-    rw (add-one i, drop-cons (take n l) i 0 k, getD-take n l i 0 h)
+-- whether one of the entries is equal, from entry i on
+any-from : (f : ℕ → Bool) (l : List ℕ) (i : ℕ) → i < length l → anyOf f (drop i l) ≡ pick (f (getD l i 0)) true (anyOf f (drop (i + 1) l))
+any-from f l i h = rw (add-one i, drop-cons l i 0 h)
 
-pub any-here : (f : ℕ → Bool) (l : List ℕ) (n i : ℕ) → i < n → n ≤ length l → f (getD l i 0) ≡ true → anyOf f (drop i (take n l)) ≡ true
-any-here f l n i h m e = any-from f l n i h m ∙ rw e
+either : (b : Bool) {c : Bool} → c ≡ true → pick b true c ≡ true
+either true e = refl
+either false e = e
 
-pub any-behind : (f : ℕ → Bool) (l : List ℕ) (n i : ℕ) → i < n → n ≤ length l → f (getD l i 0) ≡ false → anyOf f (drop i (take n l)) ≡ anyOf f (drop (i + 1) (take n l))
-any-behind f l n i h m e = any-from f l n i h m ∙ rw e
+module _ (f : ℕ → Bool) (l : List ℕ) (i : ℕ) where
+  pub any-here : i < length l → f (getD l i 0) ≡ true → anyOf f (drop i l) ≡ true
+  any-here h e = any-from f l i h ∙ rw e
 
-pub any-none : (f : ℕ → Bool) (l : List ℕ) (n i : ℕ) → n ≤ i → anyOf f (drop i (take n l)) ≡ false
-any-none f l n i h =
-    let k : length (take n l) ≤ i = rw (length-take n l) (omega arith) in
-    rw (drop-of-length-le (take n l) k)
+  pub any-behind : i < length l → f (getD l i 0) ≡ false → anyOf f (drop i l) ≡ anyOf f (drop (i + 1) l)
+  any-behind h e = any-from f l i h ∙ rw e
+
+  pub any-later : i < length l → anyOf f (drop (i + 1) l) ≡ true → anyOf f (drop i l) ≡ true
+  any-later h e = any-from f l i h ∙ either (f (getD l i 0)) e
+
+  pub any-none : length l ≤ i → anyOf f (drop i l) ≡ false
+  any-none h = rw (drop-of-length-le l h)
+
+pub any-more : (f g : ℕ → Bool) (l : List ℕ) → ((n : ℕ) → f n ≡ true → g n ≡ true) → anyOf f l ≡ true → anyOf g l ≡ true
+any-more f g [] h e = e
+any-more f g (n ∷ l) h e = by (f n) refl (any-more f g l h)
+  where
+    by : (b : Bool) → f n ≡ b → (anyOf f l ≡ true → anyOf g l ≡ true) → anyOf g (n ∷ l) ≡ true
+    by true z k = rw (h n z)
+    by false z k = either (g n) (k (rw z at e))
+
+pub first-count : (n : ℕ) (l : List ℕ) → n ≤ length l → n ≡ length (take n l)
+first-count n l h = rw (length-take n l) (omega arith)
 
 -- the entries of a store, and how many there are
 abbrev pub entries : Store → Memo → List ℕ

@@ -14,6 +14,7 @@ use Rattle.scan.specs.declared.cursor.Span.the-variants as span
 use Rattle.letters.specs.declared.Class.{Class}
 use Rattle.node.specs.Cells.{stored}
 use Rattle.node.specs.declared.Node as row
+use Rattle.meaning.specs.Tree.{treeOf, eqTree}
 use Rattle.grammar.specs.Program.{ret, sub, node, found, refused, Reply, Out, out, andThen, run, Store, added, with}
 use Rattle.forms.specs.Types.{typeReference}
 use Rattle.forms.specs.declared.types.Reference.{Reference}
@@ -50,6 +51,10 @@ memoOf st names types = record { names = names; types = types; «names_len» = s
 
 abbrev pub full : Spot → Lent → State
 full st t = record { at = st .at; used = st .used; deep = st .deep; memo = memoOf st (t .names) (t .types) }
+
+-- whether nodes n and e of the counted part of a table mean the same
+abbrev pub sameIn : List ℕ → List ℕ → ℕ → ℕ → Bool
+sameIn front s n e = eqTree (treeOf front s (n + 1)) (treeOf front s (e + 1))
 
 -- some bytes further; with one more part open; with one more node; with so many names and types in use
 abbrev pub further : ℕ → Spot → Spot

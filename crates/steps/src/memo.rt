@@ -1,20 +1,25 @@
 // The memo: a stored name or type by its digit, storing one more, and a template's own memo.
 ghost use mathlib.Core.Path.{_≡_};
 ghost use mathlib.Core.List.{List};
-ghost use Prim.Native.Nat.{ℕ, _+_, _≤_};
-ghost use lib.ListN.{getD, take, replicate};
-ghost use Rattle.meaning.specs.Tree.{treeOf, eqTree};
+ghost use Prim.Native.Nat.{ℕ, _≤_};
+ghost use lib.Dec.{eqb};
+ghost use lib.ListN.{getD, take, drop, replicate};
+ghost use Rattle.meaning.specs.Tree.{treeOf};
+ghost use Rattle.meaning.specs.Links.{Links, Judged};
 ghost use Rattle.grammar.specs.Program as store;
 ghost use Rattle.grammar.specs.Program.{anyOf};
 ghost use Rattle.grammar.specs.Words.{nameOf, typeOf};
 ghost use Rattle.grammar.specs.Table.{counted};
-ghost use Rattle.steps.specs.Does.{lent, memoOf, counting, Finds, Keeps};
+ghost use Rattle.steps.specs.Does.{lent, memoOf, counting, sameIn, Finds, Keeps};
 use crate::state::Got;
 use crate::state::Spot;
 use crate::state::found;
 use crate::state::refused;
 use grammar::Memo;
 use grammar::Refusal;
+use meaning::SPENT;
+use meaning::VISITS;
+use meaning::links::NOTES;
 
 // The entry i, 0 past the last.
 fn entry(entries: [u16; 10], i: usize) -> u16
@@ -51,19 +56,95 @@ pub fn counted(t: &[u32], used: u16) -> &[u32]
     if n <= t.len() { &t[..n] } else { t }
 }
 
-// Does one of the first entries mean the same as the node n?
-fn holds(front: &[u32], s: &[u8], entries: [u16; 10], len: u8, n: u16) -> bool
-    requires { ⌜ len ≤ 10 ⌝ }
-    ensures { λ r. ⌜ r ≡ anyOf (λ e. eqTree (treeOf (now (front .entry)) (now (s .entry)) (n + 1)) (treeOf (now (front .entry)) (now (s .entry)) (e + 1))) (take len entries) ⌝ }
+// Is one of the entries the node n itself?
+fn listed(entries: &[u16], n: u16) -> bool
+    ensures { λ r. ⌜ r ≡ anyOf (eqb n) (now (entries .entry)) ⌝ }
 {
     let mut i = 0;
-    while i < (len as usize) {
-        if meaning::same(front, s, (n as usize) + 1, (entries[i] as usize) + 1) {
+    while i < entries.len() {
+        if entries[i] == n {
             return true;
         }
         i += 1;
     }
     false
+}
+
+// Does one of the entries from a place on mean the same as the node n? 2 says yes, 0 no. What one question links serves the next.
+fn sought_over(
+    front: &[u32],
+    s: &[u8],
+    entries: &[u16],
+    links: &mut [u16],
+    from: usize,
+    n: u16,
+) -> usize
+    requires { ⌜ Links (treeOf (now front) (now s)) (now links) ⌝ }
+    ensures { λ v. ⌜ Judged (anyOf (sameIn (now (front .entry)) (now (s .entry)) n) (drop from (now (entries .entry)))) v × (v ≡ 1 → ⊥) ⌝ }
+{
+    let mut i = from;
+    while i < entries.len() {
+        let e = (entries[i] as usize) + 1;
+        if meaning::same_linked(front, s, links, (n as usize) + 1, e) {
+            return 2;
+        }
+        i += 1;
+    }
+    0
+}
+
+// Most symbols count no more nodes, and have no more links cleared.
+const FEW: usize = 1024;
+
+// The same with no links yet.
+fn sought_linked(front: &[u32], s: &[u8], entries: &[u16], from: usize, n: u16) -> usize
+    ensures { λ v. ⌜ Judged (anyOf (sameIn (now (front .entry)) (now (s .entry)) n) (drop from (now (entries .entry)))) v × (v ≡ 1 → ⊥) ⌝ }
+{
+    if node::room(front) <= FEW {
+        let mut links = [0u16; FEW];
+        return sought_over(front, s, entries, &mut links, from, n);
+    }
+    let mut links = [0u16; NOTES];
+    sought_over(front, s, entries, &mut links, from, n)
+}
+
+// The same within a budget for each entry, and 1 if it is spent for one. Others come first then: one may be told at once.
+// The outermost call answers with links. A caller would get their array into its frame; this calls itself, and does not.
+fn sought(front: &[u32], s: &[u8], entries: &[u16], from: usize, n: u16) -> usize
+    ensures { λ v. ⌜ Judged (anyOf (sameIn (now (front .entry)) (now (s .entry)) n) (drop from (now (entries .entry)))) v × (from ≡ 0 → v ≡ 1 → ⊥) ⌝ }
+{
+    let mut i = from;
+    while i < entries.len() {
+        let e = (entries[i] as usize) + 1;
+        let v = meaning::judge(front, s, (n as usize) + 1, e, VISITS);
+        if v == SPENT {
+            if sought(front, s, entries, i + 1, n) == 2 {
+                return 2;
+            }
+            if from == 0 {
+                return sought_linked(front, s, entries, i, n);
+            }
+            return SPENT;
+        }
+        if v != 0 {
+            return 2;
+        }
+        i += 1;
+    }
+    0
+}
+
+// Does one of the first entries mean the same as the node n? It may be that node.
+fn holds(front: &[u32], s: &[u8], entries: [u16; 10], len: u8, n: u16) -> bool
+    requires { ⌜ len ≤ 10 ⌝ }
+    ensures { λ r. ⌜ r ≡ anyOf (sameIn (now (front .entry)) (now (s .entry)) n) (take len entries) ⌝ }
+{
+    let i = len as usize;
+    let first = &entries[..i];
+    if listed(first, n) {
+        return true;
+    }
+    sought(front, s, first, 0, n) != 0
 }
 
 // The state with so many names and types in use.
