@@ -149,17 +149,20 @@ fn two_lists(symbols: &mut Vec<Hostile>) {
     push("long types over them read again", filled(&format!("{lists}{seven}"), &last));
 }
 
-/// Templates of other names over equal trees, each read in a context of its own: no node of one is in another.
+/// Lists of equal trees, each read in a context of its own, so that no node of one is in another. What differs stands
+/// behind what is compared first without links, and before what is compared first with them.
 fn contexts(symbols: &mut Vec<Hostile>) {
     let inner = [
-        ("a list", class("s", &"H".repeat(part(650)))),
-        ("classes", (0..part(80)).map(|_| "V?$s@H@@").collect()),
-        ("a tower", (0..60).fold("PAH".to_string(), |inner, _| class("s", &format!("{inner}0")))),
+        ("a list", class("s", &"H".repeat(part(400)))),
+        ("classes", "V?$s@H@@".repeat(part(50))),
+        ("a tower", (0..45).fold("PAH".to_string(), |inner, _| class("s", &format!("{inner}0")))),
     ];
+    let some = "H".repeat(40);
     for (what, inner) in inner {
-        let types: String = ["a", "b", "c", "d"].iter().map(|name| class(name, &inner)).collect();
-        let members: String = (0..4).map(|place| member('h', &place.to_string())).collect();
-        let symbol = filled(&(types + &members), &member('h', "3"));
+        let types = ["D", "E", "F", "G"].map(|it| class("t", &format!("{some}{it}{inner}")));
+        let over = |place: usize| member('h', &format!("{place}{some}"));
+        let parameters = types.concat() + &(0..4).map(over).collect::<String>();
+        let symbol = filled(&parameters, &over(3));
         symbols.push(hostile(format!("{what} in four contexts, compared again and again"), symbol));
     }
 }
