@@ -44,7 +44,7 @@ const BY_ROOM: usize = 4;
 /// No bits; and the one by which more entries of a list write nothing.
 const FLAGS: [u32; 2] = [0, 0x0010_0000];
 /// A call over the limit is made so often: other programs may have slowed it down.
-const TIMES: usize = 2;
+const TIMES: usize = 8;
 const SHOWN: usize = 5;
 
 struct Trial {
