@@ -3,15 +3,14 @@
 --     text-fits      an answered text fits its room
 --     same-line      old contents of table and text do not affect it
 --     line-short     it has at most 4,100 bytes
-use Prim.Native.Nat.{ℕ, zero, suc, _+_, _-_, _/_, _%_, _≤_, _<_}
+use Prim.Native.Nat.{ℕ, zero, suc, _+_, _/_, _%_, _≤_, _<_}
 use mathlib.Core.Bool.{Bool, true, false}
 use mathlib.Core.Path.{_≡_, refl, sym, ap, _∙_}
 use mathlib.Core.List.{List, [], _∷_}
 use native.Mathlib.Omega.{arith}
 use borrow.Author.Tests.{ne-eqb, lt-leb}
 use lib.Dec.{ltb}
-use lib.ListN.{length, take, drop, length-append, length-take, length-drop, length-replicate}
-use lib.Seq.{take-all}
+use lib.ListN.{length, take, length-append, length-take, length-replicate}
 use Rattle.scan.specs.Bytes.{pick}
 use Rattle.node.specs.Cells.{nodes}
 use Rattle.text.specs.Decimal.{digits}
@@ -22,12 +21,13 @@ use Rattle.farthingmoss.specs.Call.{demangled, textAfter}
 use Rattle.gates.specs.Gates.{knownFlags, symbolGate, gate}
 use Rattle.promises.specs.Promises.{ownText}
 use Rattle.promises.proofs.Kept.{kept}
-use Rattle.answer_line.specs.Line.{decimal, okLine, noLine, answerLine, table, text, lineOf}
+use Rattle.answer_line.specs.Line.{decimal, okLine, noLine, answerLine, table, text, lineOf, lineCells, lineText, longestAnswer}
+use Rattle.scan.specs.Limits.{longestSymbol, deepestReading}
 
 -- a line that is too long is refused 1
-pub long-line : (s : List ℕ) → 4096 < length s → lineOf s ≡ noLine 1 0
+pub long-line : (s : List ℕ) → longestSymbol < length s → lineOf s ≡ noLine 1 0
 unfolding lineOf demangled gate knownFlags symbolGate
-long-line s h = rw (ne-eqb (length s) 0 (λ e. omega arith), lt-leb (length s) 4096 h)
+long-line s h = rw (ne-eqb (length s) 0 (λ e. omega arith), lt-leb (length s) longestSymbol h)
 
 -- an answered text fits its room
 pub text-fits : (f depth : ℕ) (s t : List ℕ) (room : ℕ) (c : Counts) → demangled f depth s t room ≡ Answered c → c .text ≤ room
@@ -36,14 +36,14 @@ text-fits f depth s t room c e =
     let q : c .text ≡ length (ownText f s (a .root)) = ap (λ (x : Counts). x .text) (a .counts) in
     omega (arith, a .fits)
 
-module _ (s t b : List ℕ) (n : nodes t ≡ nodes table) (m : length b ≡ 4096) where
-  same-text : (c : Counts) → demangled 0 200 s table 4096 ≡ Answered c → take (c .text) (textAfter 0 200 s t b) ≡ take (c .text) (textAfter 0 200 s table text)
+module _ (s t b : List ℕ) (n : nodes t ≡ nodes table) (m : length b ≡ lineText) where
+  same-text : (c : Counts) → demangled 0 deepestReading s table lineText ≡ Answered c → take (c .text) (textAfter 0 deepestReading s t b) ≡ take (c .text) (textAfter 0 deepestReading s table text)
   unfolding text
   same-text c e =
-      let room : length text ≡ 4096 = length-replicate {A = ℕ} 4096 0 in
-      sym (kept .old-contents 0 200 s table t (sym n) .1 text b c (room ∙ sym m) (ap (demangled 0 200 s table) room ∙ e))
+      let room : length text ≡ lineText = length-replicate {A = ℕ} lineText 0 in
+      sym (kept .old-contents 0 deepestReading s table t (sym n) .1 text b c (room ∙ sym m) (ap (demangled 0 deepestReading s table) room ∙ e))
 
-  by-answer : (a : Answer) → demangled 0 200 s table 4096 ≡ a → answerLine a (textAfter 0 200 s t b) ≡ answerLine a (textAfter 0 200 s table text)
+  by-answer : (a : Answer) → demangled 0 deepestReading s table lineText ≡ a → answerLine a (textAfter 0 deepestReading s t b) ≡ answerLine a (textAfter 0 deepestReading s table text)
   by-answer (Answered c) e = ap okLine (same-text c e)
   by-answer NoSymbol e = refl
   by-answer (NotAscii at) e = refl
@@ -55,16 +55,16 @@ module _ (s t b : List ℕ) (n : nodes t ≡ nodes table) (m : length b ≡ 4096
   by-answer BadTable e = refl
 
   -- old contents of table and text do not affect it
-  pub same-line : answerLine (demangled 0 200 s t (length b)) (textAfter 0 200 s t b) ≡ lineOf s
+  pub same-line : answerLine (demangled 0 deepestReading s t (length b)) (textAfter 0 deepestReading s t b) ≡ lineOf s
   unfolding lineOf
   same-line =
-      ap (λ k. answerLine (demangled 0 200 s t k) (textAfter 0 200 s t b)) m
-      ∙ ap (λ (a : Answer). answerLine a (textAfter 0 200 s t b)) (kept .old-contents 0 200 s t table n .0 4096)
-      ∙ by-answer (demangled 0 200 s table 4096) refl
+      ap (λ k. answerLine (demangled 0 deepestReading s t k) (textAfter 0 deepestReading s t b)) m
+      ∙ ap (λ (a : Answer). answerLine a (textAfter 0 deepestReading s t b)) (kept .old-contents 0 deepestReading s t table n .0 lineText)
+      ∙ by-answer (demangled 0 deepestReading s table lineText) refl
 
-pub table-nodes : (t : List ℕ) → length t ≡ 12288 → nodes t ≡ nodes table
+pub table-nodes : (t : List ℕ) → length t ≡ lineCells → nodes t ≡ nodes table
 unfolding table
-table-nodes t e = ap (λ n. n / 12) (e ∙ sym (length-replicate {A = ℕ} 12288 0))
+table-nodes t e = ap (λ n. n / 12) (e ∙ sym (length-replicate {A = ℕ} lineCells 0))
 
 -- at most so many bytes
 digits-short : (k n : ℕ) (acc : List ℕ) → length (digits k n acc) ≤ k + length acc
@@ -80,31 +80,26 @@ decimal-short : (n : ℕ) → length (decimal n) ≤ 20
 unfolding decimal
 decimal-short n = omega (arith, digits-short 20 n [])
 
--- the digits, as the part of a buffer of twenty bytes from i on
-pub digits-part : (b : List ℕ) (i n : ℕ) → length b ≡ 20 → drop i b ≡ digits 20 n [] → take (20 - i) (drop i b) ≡ decimal n
-unfolding decimal
-digits-part b i n e d = take-all (20 - i) (drop i b) (omega (arith, length-drop i b)) ∙ d
-
 ok-short : (t : List ℕ) → length (okLine t) ≡ length t + 4
 unfolding okLine
 ok-short t = simp length-append (omega arith)
 
-no-short : (number offset : ℕ) → length (noLine number offset) ≤ 4100
+no-short : (number offset : ℕ) → length (noLine number offset) ≤ longestAnswer
 unfolding noLine
 no-short number offset = simp length-append (omega (arith, decimal-short number, decimal-short offset))
 
 take-short : (n : ℕ) (l : List ℕ) → length (take n l) ≤ n
 take-short n l = rw (length-take n l) (omega arith)
 
-pub line-short : (s : List ℕ) → length (lineOf s) ≤ 4100
+pub line-short : (s : List ℕ) → length (lineOf s) ≤ longestAnswer
 unfolding lineOf
-line-short s = by (demangled 0 200 s table 4096) refl
+line-short s = by (demangled 0 deepestReading s table lineText) refl
   where
     b : List ℕ
-    b = textAfter 0 200 s table text
+    b = textAfter 0 deepestReading s table text
 
-    by : (a : Answer) → demangled 0 200 s table 4096 ≡ a → length (answerLine a b) ≤ 4100
-    by (Answered c) e = omega (arith, ok-short (take (c .text) b), take-short (c .text) b, text-fits 0 200 s table 4096 c e)
+    by : (a : Answer) → demangled 0 deepestReading s table lineText ≡ a → length (answerLine a b) ≤ longestAnswer
+    by (Answered c) e = omega (arith, ok-short (take (c .text) b), take-short (c .text) b, text-fits 0 deepestReading s table lineText c e)
     by NoSymbol e = no-short 1 0
     by (NotAscii at) e = no-short 2 at
     by (NoDerivation at) e = no-short 3 at

@@ -1,39 +1,28 @@
 // The line that answers a line of the program's input.
 ghost use mathlib.Core.Path.{_≡_};
-ghost use mathlib.Core.List.{[]};
 ghost use Prim.Native.Nat.{_≤_};
-ghost use lib.ListN.{length, drop};
+ghost use lib.ListN.{length};
 ghost use Rattle.text.specs.Emit.{Wrote, lit};
-ghost use Rattle.text.specs.Decimal.{digits};
 ghost use Rattle.farthingmoss.specs.declared.Counts.{Counts};
 ghost use Rattle.farthingmoss.specs.declared.Answer.the-variants.{Answered};
-ghost use Rattle.answer_line.specs.Line.{decimal, okLine, noLine, answerLine, lineOf};
+ghost use Rattle.answer_line.specs.Line.{decimal, okLine, noLine, answerLine, lineOf, lineCells, lineText};
 use farthingmoss::Answer;
 use farthingmoss::demangle;
+use scan::limits::DEEPEST_READING;
 use text::buffer::put;
 use text::buffer::put_bytes;
+use text::decimal::fill_back;
 
 const FLAGS: u32 = 0;
 
-const DEPTH: u32 = 200;
+const DEPTH: u32 = DEEPEST_READING as u32;
 
-// The digits of n, at the end of buf; where they start.
-fn fill_back(buf: &mut [u8], n: usize) -> usize
-    ensures { λ r. ⌜ (r ≤ length (now (buf .exit))) × (drop r (now (buf .exit)) ≡ digits (length (now (buf .entry))) n []) ⌝ }
-{
-    let mut i = buf.len();
-    let mut v = n;
-    while 0 < i {
-        let d = (v % 10) as u8;
-        i -= 1;
-        buf[i] = 48 + d;
-        if v < 10 {
-            return i;
-        }
-        v /= 10;
-    }
-    i
-}
+// The program's table of 1,024 nodes, its room for a text, and the longest answer: `ok`, tab, text, newline.
+pub const TABLE: usize = 1024 * node::CELLS;
+
+pub const TEXT: usize = 4_096;
+
+pub const LONGEST_ANSWER: usize = TEXT + 4;
 
 fn put_number(out: &mut [u8], o: usize, n: usize) -> usize
     ensures { λ r. ⌜ Wrote (lit (decimal n)) (now (out .entry)) o (now (out .exit)) r ⌝ }
@@ -89,8 +78,8 @@ pub fn answer_line(
     table: &mut [u32],
     text: &mut [u8],
 ) -> usize
-    requires { ⌜ length (now table) ≡ 12288 ⌝ }
-    requires { ⌜ length (now text) ≡ 4096 ⌝ }
+    requires { ⌜ length (now table) ≡ lineCells ⌝ }
+    requires { ⌜ length (now text) ≡ lineText ⌝ }
     ensures { λ r. ⌜ Wrote (lit (lineOf (now (line .entry)))) (now (out .entry)) o (now (out .exit)) r ⌝ }
 {
     let a = demangle(line, FLAGS, DEPTH, table, text);

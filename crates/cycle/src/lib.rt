@@ -1,19 +1,40 @@
-// The readers of the crate's parser, over a lent symbol and a lent node table. Each does what the production of its name says:
-// types, names and parameter lists call each other in a cycle, the remaining depth falling where a part opens.
+// The readers of the crate's parser, over a lent symbol and a lent node table. Each does what the production of its name
+// says: types, names and parameter lists call each other in a cycle, the remaining depth falling where a part opens.
+//
+// The checker joins the names of a cycle's functions in one file name, of 255 bytes at most; so they are short:
+//   ty, vtype          read_var_type, and as it is called: a stored type opens no part
+//   named, point, tofn a type above a name, above a pointee, above a function
+//   func, mptr, tail   read_func_type, read_member_function_pointer, and how both end
+//   rett, strt         a return, and read_func_return_type: that of a structor
+//   array, dims, elem  read_array, read_nested_array, an array's element
+//   fparams, params    read_func_params, read_params; param is one of them
+//   scope, sname       read_scope, and one of its names
+//   name, tmpl         read_name, read_template_name
+//   unq, unqn          read_unqualified_name, and as it is called: a digit opens no part
+//   special            read_special_name
+//   nested, nname      read_nested_name, and as it is called: a digit opens no part
+//   parse, pform       parse, and behind its `?`: pname a name and its type, pguard `?$TSS`, ptmpl `?$`
+//   otmpl, oname       the symbol of `?$`, and its name; oguard is the symbol of `?$TSS`
+//   sym, var           the symbol's own type, a variable
+//
+// They take the symbol `s`; what is lent, the node table `t` and the two halves of the memo; the spot `st`; the limits of
+// the reading `lim`, and beside them `depth`, how many more parts may open: of all limits it alone falls. In the layout
+// a call takes ten lines, so that a reader which calls three others has over forty.
 
 ghost use mathlib.Core.Path.{_≡_};
 ghost use Prim.Native.Nat.{_≤_, _-_, _+_};
-ghost use lib.ListN.{length, drop};
+ghost use lib.ListN.{length};
 ghost use Rattle.forms.specs.Begins.{parseForms};
 ghost use Rattle.forms.specs.declared.begins.ParseForm.the-variants.{Guard, Template, Name};
 ghost use Rattle.grammar.specs.Words.{digit, ordered};
 ghost use Rattle.grammar.specs.Grammar as tags;
 ghost use Rattle.grammar.specs.Grammar.{VarType, Unqualified, Nested, Parse, OuterTemplate, OuterName, OuterGuard, SymbolType, varType, funcType, memberFunctionPointer, array, dimensions, element, funcReturnType, funcParams, params, storedParam, newParam, scope, templateName, unqualifiedName, specialName, nestedName, parseOf};
-ghost use Rattle.steps.specs.Does.{plain, guarded, sized, lent, full, Does, Reads};
+ghost use Rattle.steps.specs.Does.{plain, guarded, sized, lent, Does, Reads};
 ghost use Rattle.shapes.specs.Shapes.{shapeType, shapeSymbol, headed, returned};
 ghost use Rattle.shapes.specs.declared.types.Shape.the-variants.{Named, Pointing, ToFunction};
 ghost use Rattle.shapes.specs.declared.symbols.SymbolShape.the-variants.{Variable};
 ghost use Rattle.ends.specs.Ends.{scopeName};
+ghost use Rattle.scan.specs.Limits.{Short};
 use ends::array_end;
 use ends::ended;
 use ends::guard_of;
@@ -31,7 +52,9 @@ use ends::stored_unless;
 use ends::table_end;
 use ends::template_end;
 use forms::begins::ParseForm;
+use grammar::Entries;
 use grammar::Refusal;
+use node::kinds;
 use shapes::heads::Headed;
 use shapes::heads::function_head;
 use shapes::heads::pointer_head;
@@ -78,7 +101,7 @@ use steps::state::refused;
 
 // One more than the bytes that are left: a list has no more entries.
 fn turns(s: &[u8], st: Spot) -> usize
-    requires { ⌜ length (now s) ≤ 4096 ⌝ }
+    requires { ⌜ Short (now s) ⌝ }
     ensures { λ r. ⌜ r ≡ length (now (s .entry)) - st .at + 1 ⌝ }
 {
     let at = st.at as usize;
@@ -89,14 +112,14 @@ fn turns(s: &[u8], st: Spot) -> usize
 fn vtype(
     s: &[u8],
     t: &mut [u32],
-    names: &mut [u16; 10],
-    types: &mut [u16; 10],
+    names: &mut Entries,
+    types: &mut Entries,
     st: Spot,
     lim: Limits,
     depth: u16,
     sc: u32,
 ) -> Got
-    requires { ⌜ length (now s) ≤ 4096 ⌝ }
+    requires { ⌜ Short (now s) ⌝ }
     ensures { λ r. ⌜ Does (now (s .entry)) (lim .depth) (lim .room) depth (varType sc) st (lent (now (t .entry)) (now (names .entry)) (now (types .entry))) plain r (lent (now (t .exit)) (now (names .exit)) (now (types .exit))) ⌝ }
 {
     let f = reference(s, st);
@@ -111,14 +134,14 @@ fn vtype(
 fn ty(
     s: &[u8],
     t: &mut [u32],
-    names: &mut [u16; 10],
-    types: &mut [u16; 10],
+    names: &mut Entries,
+    types: &mut Entries,
     st: Spot,
     lim: Limits,
     depth: u16,
     sc: u32,
 ) -> Got
-    requires { ⌜ length (now s) ≤ 4096 ⌝ }
+    requires { ⌜ Short (now s) ⌝ }
     ensures { λ r. ⌜ Reads (now (s .entry)) (lim .depth) (lim .room) depth (VarType sc) st (lent (now (t .entry)) (now (names .entry)) (now (types .entry))) plain r (lent (now (t .exit)) (now (names .exit)) (now (types .exit))) ⌝ }
 {
     if depth == 0 {
@@ -156,8 +179,8 @@ fn ty(
 fn named(
     s: &[u8],
     t: &mut [u32],
-    names: &mut [u16; 10],
-    types: &mut [u16; 10],
+    names: &mut Entries,
+    types: &mut Entries,
     st: Spot,
     lim: Limits,
     depth: u16,
@@ -165,7 +188,7 @@ fn named(
     function: bool,
     class: u32,
 ) -> Got
-    requires { ⌜ length (now s) ≤ 4096 ⌝ }
+    requires { ⌜ Short (now s) ⌝ }
     ensures { λ r. ⌜ Does (now (s .entry)) (lim .depth) (lim .room) depth (shapeType (Named kind function class)) st (lent (now (t .entry)) (now (names .entry)) (now (types .entry))) plain r (lent (now (t .exit)) (now (names .exit)) (now (types .exit))) ⌝ }
 {
     let g = name(s, t, names, types, st, lim, depth, function);
@@ -176,15 +199,15 @@ fn named(
 fn point(
     s: &[u8],
     t: &mut [u32],
-    names: &mut [u16; 10],
-    types: &mut [u16; 10],
+    names: &mut Entries,
+    types: &mut Entries,
     st: Spot,
     lim: Limits,
     depth: u16,
     kind: u32,
     class: u32,
 ) -> Got
-    requires { ⌜ length (now s) ≤ 4096 ⌝ }
+    requires { ⌜ Short (now s) ⌝ }
     ensures { λ r. ⌜ Does (now (s .entry)) (lim .depth) (lim .room) depth (shapeType (Pointing kind class)) st (lent (now (t .entry)) (now (names .entry)) (now (types .entry))) plain r (lent (now (t .exit)) (now (names .exit)) (now (types .exit))) ⌝ }
 {
     let c = pointee_class(s, st);
@@ -196,15 +219,15 @@ fn point(
 fn tofn(
     s: &[u8],
     t: &mut [u32],
-    names: &mut [u16; 10],
-    types: &mut [u16; 10],
+    names: &mut Entries,
+    types: &mut Entries,
     st: Spot,
     lim: Limits,
     depth: u16,
     kind: u32,
     class: u32,
 ) -> Got
-    requires { ⌜ length (now s) ≤ 4096 ⌝ }
+    requires { ⌜ Short (now s) ⌝ }
     ensures { λ r. ⌜ Does (now (s .entry)) (lim .depth) (lim .room) depth (shapeType (ToFunction kind class)) st (lent (now (t .entry)) (now (names .entry)) (now (types .entry))) plain r (lent (now (t .exit)) (now (names .exit)) (now (types .exit))) ⌝ }
 {
     if depth == 0 {
@@ -229,14 +252,14 @@ fn tofn(
 fn func(
     s: &[u8],
     t: &mut [u32],
-    names: &mut [u16; 10],
-    types: &mut [u16; 10],
+    names: &mut Entries,
+    types: &mut Entries,
     st: Spot,
     lim: Limits,
     depth: u16,
     qualifiers: bool,
 ) -> Got
-    requires { ⌜ length (now s) ≤ 4096 ⌝ }
+    requires { ⌜ Short (now s) ⌝ }
     ensures { λ r. ⌜ Does (now (s .entry)) (lim .depth) (lim .room) depth (funcType qualifiers) st (lent (now (t .entry)) (now (names .entry)) (now (types .entry))) plain r (lent (now (t .exit)) (now (names .exit)) (now (types .exit))) ⌝ }
 {
     tail(
@@ -254,14 +277,14 @@ fn func(
 fn mptr(
     s: &[u8],
     t: &mut [u32],
-    names: &mut [u16; 10],
-    types: &mut [u16; 10],
+    names: &mut Entries,
+    types: &mut Entries,
     st: Spot,
     lim: Limits,
     depth: u16,
     qualifiers: bool,
 ) -> Got
-    requires { ⌜ length (now s) ≤ 4096 ⌝ }
+    requires { ⌜ Short (now s) ⌝ }
     ensures { λ r. ⌜ Does (now (s .entry)) (lim .depth) (lim .room) depth (memberFunctionPointer qualifiers) st (lent (now (t .entry)) (now (names .entry)) (now (types .entry))) plain r (lent (now (t .exit)) (now (names .exit)) (now (types .exit))) ⌝ }
 {
     let g = name(s, t, names, types, st, lim, depth, true);
@@ -284,13 +307,13 @@ fn mptr(
 fn tail(
     s: &[u8],
     t: &mut [u32],
-    names: &mut [u16; 10],
-    types: &mut [u16; 10],
+    names: &mut Entries,
+    types: &mut Entries,
     h: Headed,
     lim: Limits,
     depth: u16,
 ) -> Got
-    requires { ⌜ length (now s) ≤ 4096 ⌝ }
+    requires { ⌜ Short (now s) ⌝ }
     ensures { λ r. ⌜ Does (now (s .entry)) (lim .depth) (lim .room) depth (headed h) (h .state) (lent (now (t .entry)) (now (names .entry)) (now (types .entry))) plain r (lent (now (t .exit)) (now (names .exit)) (now (types .exit))) ⌝ }
 {
     let st = h.state;
@@ -336,15 +359,15 @@ fn tail(
 fn rett(
     s: &[u8],
     t: &mut [u32],
-    names: &mut [u16; 10],
-    types: &mut [u16; 10],
+    names: &mut Entries,
+    types: &mut Entries,
     st: Spot,
     lim: Limits,
     depth: u16,
     sc: u32,
     structor: bool,
 ) -> Got
-    requires { ⌜ length (now s) ≤ 4096 ⌝ }
+    requires { ⌜ Short (now s) ⌝ }
     ensures { λ r. ⌜ Does (now (s .entry)) (lim .depth) (lim .room) depth (returned structor sc) st (lent (now (t .entry)) (now (names .entry)) (now (types .entry))) plain r (lent (now (t .exit)) (now (names .exit)) (now (types .exit))) ⌝ }
 {
     if structor {
@@ -357,18 +380,18 @@ fn rett(
 fn strt(
     s: &[u8],
     t: &mut [u32],
-    names: &mut [u16; 10],
-    types: &mut [u16; 10],
+    names: &mut Entries,
+    types: &mut Entries,
     st: Spot,
     lim: Limits,
     depth: u16,
     sc: u32,
 ) -> Got
-    requires { ⌜ length (now s) ≤ 4096 ⌝ }
+    requires { ⌜ Short (now s) ⌝ }
     ensures { λ r. ⌜ Does (now (s .entry)) (lim .depth) (lim .room) depth (funcReturnType sc) st (lent (now (t .entry)) (now (names .entry)) (now (types .entry))) plain r (lent (now (t .exit)) (now (names .exit)) (now (types .exit))) ⌝ }
 {
     if scan::cursor::consume(b"@", s, st.at as usize) {
-        return literal_part(b"@", s, t, st, lim, depth, 17, 0);
+        return literal_part(b"@", s, t, st, lim, depth, kinds::NONE, 0);
     }
     vtype(s, t, names, types, st, lim, depth, sc)
 }
@@ -377,13 +400,13 @@ fn strt(
 fn array(
     s: &[u8],
     t: &mut [u32],
-    names: &mut [u16; 10],
-    types: &mut [u16; 10],
+    names: &mut Entries,
+    types: &mut Entries,
     st: Spot,
     lim: Limits,
     depth: u16,
 ) -> Got
-    requires { ⌜ length (now s) ≤ 4096 ⌝ }
+    requires { ⌜ Short (now s) ⌝ }
     ensures { λ r. ⌜ Does (now (s .entry)) (lim .depth) (lim .room) depth array st (lent (now (t .entry)) (now (names .entry)) (now (types .entry))) plain r (lent (now (t .exit)) (now (names .exit)) (now (types .exit))) ⌝ }
 {
     let k = number(s, st);
@@ -406,14 +429,14 @@ fn array(
 fn dims(
     s: &[u8],
     t: &mut [u32],
-    names: &mut [u16; 10],
-    types: &mut [u16; 10],
+    names: &mut Entries,
+    types: &mut Entries,
     st: Spot,
     lim: Limits,
     depth: u16,
     dimension: u32,
 ) -> Got
-    requires { ⌜ length (now s) ≤ 4096 ⌝ }
+    requires { ⌜ Short (now s) ⌝ }
     ensures { λ r. ⌜ Does (now (s .entry)) (lim .depth) (lim .room) depth (dimensions dimension) st (lent (now (t .entry)) (now (names .entry)) (now (types .entry))) sized r (lent (now (t .exit)) (now (names .exit)) (now (types .exit))) ⌝ }
 {
     let k = number(s, st);
@@ -449,13 +472,13 @@ fn dims(
 fn elem(
     s: &[u8],
     t: &mut [u32],
-    names: &mut [u16; 10],
-    types: &mut [u16; 10],
+    names: &mut Entries,
+    types: &mut Entries,
     st: Spot,
     lim: Limits,
     depth: u16,
 ) -> Got
-    requires { ⌜ length (now s) ≤ 4096 ⌝ }
+    requires { ⌜ Short (now s) ⌝ }
     ensures { λ r. ⌜ Does (now (s .entry)) (lim .depth) (lim .room) depth element st (lent (now (t .entry)) (now (names .entry)) (now (types .entry))) sized r (lent (now (t .exit)) (now (names .exit)) (now (types .exit))) ⌝ }
 {
     let c = element_class(s, st);
@@ -473,18 +496,18 @@ fn elem(
 fn fparams(
     s: &[u8],
     t: &mut [u32],
-    names: &mut [u16; 10],
-    types: &mut [u16; 10],
+    names: &mut Entries,
+    types: &mut Entries,
     st: Spot,
     lim: Limits,
     depth: u16,
 ) -> Got
-    requires { ⌜ length (now s) ≤ 4096 ⌝ }
+    requires { ⌜ Short (now s) ⌝ }
     ensures { λ r. ⌜ Does (now (s .entry)) (lim .depth) (lim .room) depth funcParams st (lent (now (t .entry)) (now (names .entry)) (now (types .entry))) plain r (lent (now (t .exit)) (now (names .exit)) (now (types .exit))) ⌝ }
 {
     if scan::cursor::consume(b"X", s, st.at as usize) {
-        let x = literal_part(b"X", s, t, st, lim, depth, 38, 0);
-        let l = placed(t, x, lim, 2, 0);
+        let x = literal_part(b"X", s, t, st, lim, depth, kinds::VOID, 0);
+        let l = placed(t, x, lim, kinds::TYPE_PLACE, 0);
         return ended(s, l);
     }
     let g = params(s, t, names, types, st, lim, depth);
@@ -495,13 +518,13 @@ fn fparams(
 fn params(
     s: &[u8],
     t: &mut [u32],
-    names: &mut [u16; 10],
-    types: &mut [u16; 10],
+    names: &mut Entries,
+    types: &mut Entries,
     first: Spot,
     lim: Limits,
     depth: u16,
 ) -> Got
-    requires { ⌜ length (now s) ≤ 4096 ⌝ }
+    requires { ⌜ Short (now s) ⌝ }
     ensures { λ r. ⌜ Does (now (s .entry)) (lim .depth) (lim .room) depth params first (lent (now (t .entry)) (now (names .entry)) (now (types .entry))) plain r (lent (now (t .exit)) (now (names .exit)) (now (types .exit))) ⌝ }
 {
     let mut st = first;
@@ -530,20 +553,20 @@ fn params(
 fn param(
     s: &[u8],
     t: &mut [u32],
-    names: &mut [u16; 10],
-    types: &mut [u16; 10],
+    names: &mut Entries,
+    types: &mut Entries,
     st: Spot,
     lim: Limits,
     depth: u16,
     last: u16,
 ) -> Got
-    requires { ⌜ length (now s) ≤ 4096 ⌝ }
+    requires { ⌜ Short (now s) ⌝ }
     ensures { λ r. ⌜ Does (now (s .entry)) (lim .depth) (lim .room) depth (digit (storedParam last) (newParam last)) st (lent (now (t .entry)) (now (names .entry)) (now (types .entry))) plain r (lent (now (t .exit)) (now (names .exit)) (now (types .exit))) ⌝ }
 {
     let d = digit(s, st);
     let v = d.value;
     match v {
-        Value::Is(i) => placed(t, type_of(types, d.state, i), lim, 2, last),
+        Value::Is(i) => placed(t, type_of(types, d.state, i), lim, kinds::TYPE_PLACE, last),
         Value::Bad => {
             let g = vtype(s, t, names, types, st, lim, depth, 0);
             param_end(s, t, types, g, lim, st.at, last)
@@ -555,13 +578,13 @@ fn param(
 fn scope(
     s: &[u8],
     t: &mut [u32],
-    names: &mut [u16; 10],
-    types: &mut [u16; 10],
+    names: &mut Entries,
+    types: &mut Entries,
     first: Spot,
     lim: Limits,
     depth: u16,
 ) -> Got
-    requires { ⌜ length (now s) ≤ 4096 ⌝ }
+    requires { ⌜ Short (now s) ⌝ }
     ensures { λ r. ⌜ Does (now (s .entry)) (lim .depth) (lim .room) depth scope first (lent (now (t .entry)) (now (names .entry)) (now (types .entry))) plain r (lent (now (t .exit)) (now (names .exit)) (now (types .exit))) ⌝ }
 {
     let mut st = first;
@@ -593,31 +616,31 @@ fn scope(
 fn sname(
     s: &[u8],
     t: &mut [u32],
-    names: &mut [u16; 10],
-    types: &mut [u16; 10],
+    names: &mut Entries,
+    types: &mut Entries,
     st: Spot,
     lim: Limits,
     depth: u16,
     last: u16,
 ) -> Got
-    requires { ⌜ length (now s) ≤ 4096 ⌝ }
+    requires { ⌜ Short (now s) ⌝ }
     ensures { λ r. ⌜ Does (now (s .entry)) (lim .depth) (lim .room) depth (scopeName last) st (lent (now (t .entry)) (now (names .entry)) (now (types .entry))) plain r (lent (now (t .exit)) (now (names .exit)) (now (types .exit))) ⌝ }
 {
     let g = nname(s, t, names, types, st, lim, depth);
-    placed(t, g, lim, 1, last)
+    placed(t, g, lim, kinds::NAME_PLACE, last)
 }
 
 // read_template_name: its own memo, and the outer one comes back.
 fn tmpl(
     s: &[u8],
     t: &mut [u32],
-    names: &mut [u16; 10],
-    types: &mut [u16; 10],
+    names: &mut Entries,
+    types: &mut Entries,
     st: Spot,
     lim: Limits,
     depth: u16,
 ) -> Got
-    requires { ⌜ length (now s) ≤ 4096 ⌝ }
+    requires { ⌜ Short (now s) ⌝ }
     ensures { λ r. ⌜ Does (now (s .entry)) (lim .depth) (lim .room) depth templateName st (lent (now (t .entry)) (now (names .entry)) (now (types .entry))) plain r (lent (now (t .exit)) (now (names .exit)) (now (types .exit))) ⌝ }
 {
     let outer = aside(names, types, st);
@@ -636,14 +659,14 @@ fn tmpl(
 fn name(
     s: &[u8],
     t: &mut [u32],
-    names: &mut [u16; 10],
-    types: &mut [u16; 10],
+    names: &mut Entries,
+    types: &mut Entries,
     st: Spot,
     lim: Limits,
     depth: u16,
     function: bool,
 ) -> Got
-    requires { ⌜ length (now s) ≤ 4096 ⌝ }
+    requires { ⌜ Short (now s) ⌝ }
     ensures { λ r. ⌜ Reads (now (s .entry)) (lim .depth) (lim .room) depth (tags.Name function) st (lent (now (t .entry)) (now (names .entry)) (now (types .entry))) guarded r (lent (now (t .exit)) (now (names .exit)) (now (types .exit))) ⌝ }
 {
     if depth == 0 {
@@ -665,7 +688,12 @@ fn name(
     match a {
         Answer::Node(n) => {
             let l = scope(s, t, names, types, g.state, lim, left);
-            let k = over(t, l, lim, made(4, (n as u32) + 1, 0, 0, 0, 0, 0));
+            let k = over(
+                t,
+                l,
+                lim,
+                made(kinds::SYMBOL, (n as u32) + 1, 0, 0, 0, 0, 0),
+            );
             beside(k, g.extra)
         }
         Answer::Refused(_) => g,
@@ -676,14 +704,14 @@ fn name(
 fn unqn(
     s: &[u8],
     t: &mut [u32],
-    names: &mut [u16; 10],
-    types: &mut [u16; 10],
+    names: &mut Entries,
+    types: &mut Entries,
     st: Spot,
     lim: Limits,
     depth: u16,
     function: bool,
 ) -> Got
-    requires { ⌜ length (now s) ≤ 4096 ⌝ }
+    requires { ⌜ Short (now s) ⌝ }
     ensures { λ r. ⌜ Does (now (s .entry)) (lim .depth) (lim .room) depth (unqualifiedName function) st (lent (now (t .entry)) (now (names .entry)) (now (types .entry))) guarded r (lent (now (t .exit)) (now (names .exit)) (now (types .exit))) ⌝ }
 {
     let d = digit(s, st);
@@ -698,14 +726,14 @@ fn unqn(
 fn unq(
     s: &[u8],
     t: &mut [u32],
-    names: &mut [u16; 10],
-    types: &mut [u16; 10],
+    names: &mut Entries,
+    types: &mut Entries,
     st: Spot,
     lim: Limits,
     depth: u16,
     function: bool,
 ) -> Got
-    requires { ⌜ length (now s) ≤ 4096 ⌝ }
+    requires { ⌜ Short (now s) ⌝ }
     ensures { λ r. ⌜ Reads (now (s .entry)) (lim .depth) (lim .room) depth (Unqualified function) st (lent (now (t .entry)) (now (names .entry)) (now (types .entry))) guarded r (lent (now (t .exit)) (now (names .exit)) (now (types .exit))) ⌝ }
 {
     if depth == 0 {
@@ -723,7 +751,17 @@ fn unq(
         }
         UnqualifiedShape::Special => special(s, t, names, types, next, lim, left),
         UnqualifiedShape::Plain(start, len) => beside(
-            leaf_name(s, t, names, next, lim, 10, start, len, true),
+            leaf_name(
+                s,
+                t,
+                names,
+                next,
+                lim,
+                kinds::NON_TEMPLATE,
+                start,
+                len,
+                true,
+            ),
             0,
         ),
         UnqualifiedShape::Refused => refused(Refusal::Syntax, next),
@@ -734,23 +772,26 @@ fn unq(
 fn special(
     s: &[u8],
     t: &mut [u32],
-    names: &mut [u16; 10],
-    types: &mut [u16; 10],
+    names: &mut Entries,
+    types: &mut Entries,
     st: Spot,
     lim: Limits,
     depth: u16,
 ) -> Got
-    requires { ⌜ length (now s) ≤ 4096 ⌝ }
+    requires { ⌜ Short (now s) ⌝ }
     ensures { λ r. ⌜ Does (now (s .entry)) (lim .depth) (lim .room) depth specialName st (lent (now (t .entry)) (now (names .entry)) (now (types .entry))) guarded r (lent (now (t .exit)) (now (names .exit)) (now (types .exit))) ⌝ }
 {
     let k = special_shape(s, st);
     let next = k.state;
     let f = k.shape;
     match f {
-        SpecialShape::Operator(op) => beside(shut_leaf(t, next, lim, 7, op, 0), guard_of(op)),
+        SpecialShape::Operator(op) => beside(
+            shut_leaf(t, next, lim, kinds::OPERATOR, op, 0),
+            guard_of(op),
+        ),
         SpecialShape::Type(class) => {
             let g = vtype(s, t, names, types, next, lim, depth, class);
-            beside(above(t, g, lim, 8, class, 0), 0)
+            beside(above(t, g, lim, kinds::RTTI_TYPE_DESCRIPTOR, class, 0), 0)
         }
         SpecialShape::Base(p, q, r, flags) => beside(shut_base(t, next, lim, p, q, r, flags), 0),
         SpecialShape::Refused => refused(Refusal::Syntax, next),
@@ -761,13 +802,13 @@ fn special(
 fn nname(
     s: &[u8],
     t: &mut [u32],
-    names: &mut [u16; 10],
-    types: &mut [u16; 10],
+    names: &mut Entries,
+    types: &mut Entries,
     st: Spot,
     lim: Limits,
     depth: u16,
 ) -> Got
-    requires { ⌜ length (now s) ≤ 4096 ⌝ }
+    requires { ⌜ Short (now s) ⌝ }
     ensures { λ r. ⌜ Does (now (s .entry)) (lim .depth) (lim .room) depth nestedName st (lent (now (t .entry)) (now (names .entry)) (now (types .entry))) plain r (lent (now (t .exit)) (now (names .exit)) (now (types .exit))) ⌝ }
 {
     let d = digit(s, st);
@@ -782,13 +823,13 @@ fn nname(
 fn nested(
     s: &[u8],
     t: &mut [u32],
-    names: &mut [u16; 10],
-    types: &mut [u16; 10],
+    names: &mut Entries,
+    types: &mut Entries,
     st: Spot,
     lim: Limits,
     depth: u16,
 ) -> Got
-    requires { ⌜ length (now s) ≤ 4096 ⌝ }
+    requires { ⌜ Short (now s) ⌝ }
     ensures { λ r. ⌜ Reads (now (s .entry)) (lim .depth) (lim .room) depth Nested st (lent (now (t .entry)) (now (names .entry)) (now (types .entry))) plain r (lent (now (t .exit)) (now (names .exit)) (now (types .exit))) ⌝ }
 {
     if depth == 0 {
@@ -803,7 +844,7 @@ fn nested(
         NameShape::Stored(i) => name_of(names, next, i),
         NameShape::Parsed => {
             let g = parse(s, t, names, types, next, lim, left);
-            above(t, g, lim, 14, 0, 0)
+            above(t, g, lim, kinds::PARSED_NAME, 0, 0)
         }
         NameShape::Template => {
             let g = tmpl(s, t, names, types, next, lim, left);
@@ -828,13 +869,13 @@ fn nested(
 pub fn parse(
     s: &[u8],
     t: &mut [u32],
-    names: &mut [u16; 10],
-    types: &mut [u16; 10],
+    names: &mut Entries,
+    types: &mut Entries,
     st: Spot,
     lim: Limits,
     depth: u16,
 ) -> Got
-    requires { ⌜ length (now s) ≤ 4096 ⌝ }
+    requires { ⌜ Short (now s) ⌝ }
     ensures { λ r. ⌜ Reads (now (s .entry)) (lim .depth) (lim .room) depth Parse st (lent (now (t .entry)) (now (names .entry)) (now (types .entry))) plain r (lent (now (t .exit)) (now (names .exit)) (now (types .exit))) ⌝ }
 {
     if depth == 0 {
@@ -854,13 +895,13 @@ pub fn parse(
 fn pform(
     s: &[u8],
     t: &mut [u32],
-    names: &mut [u16; 10],
-    types: &mut [u16; 10],
+    names: &mut Entries,
+    types: &mut Entries,
     st: Spot,
     lim: Limits,
     depth: u16,
 ) -> Got
-    requires { ⌜ length (now s) ≤ 4096 ⌝ }
+    requires { ⌜ Short (now s) ⌝ }
     ensures { λ r. ⌜ Does (now (s .entry)) (lim .depth) (lim .room) depth (ordered parseForms parseOf (parseOf Name)) st (lent (now (t .entry)) (now (names .entry)) (now (types .entry))) plain r (lent (now (t .exit)) (now (names .exit)) (now (types .exit))) ⌝ }
 {
     let k = parse_form(s, st);
@@ -878,13 +919,13 @@ fn pform(
 fn pname(
     s: &[u8],
     t: &mut [u32],
-    names: &mut [u16; 10],
-    types: &mut [u16; 10],
+    names: &mut Entries,
+    types: &mut Entries,
     st: Spot,
     lim: Limits,
     depth: u16,
 ) -> Got
-    requires { ⌜ length (now s) ≤ 4096 ⌝ }
+    requires { ⌜ Short (now s) ⌝ }
     ensures { λ r. ⌜ Does (now (s .entry)) (lim .depth) (lim .room) depth (parseOf Name) st (lent (now (t .entry)) (now (names .entry)) (now (types .entry))) plain r (lent (now (t .exit)) (now (names .exit)) (now (types .exit))) ⌝ }
 {
     let g = name(s, t, names, types, st, lim, depth, true);
@@ -909,13 +950,13 @@ fn pname(
 fn pguard(
     s: &[u8],
     t: &mut [u32],
-    names: &mut [u16; 10],
-    types: &mut [u16; 10],
+    names: &mut Entries,
+    types: &mut Entries,
     st: Spot,
     lim: Limits,
     depth: u16,
 ) -> Got
-    requires { ⌜ length (now s) ≤ 4096 ⌝ }
+    requires { ⌜ Short (now s) ⌝ }
     ensures { λ r. ⌜ Does (now (s .entry)) (lim .depth) (lim .room) depth (parseOf Guard) st (lent (now (t .entry)) (now (names .entry)) (now (types .entry))) plain r (lent (now (t .exit)) (now (names .exit)) (now (types .exit))) ⌝ }
 {
     let k = guard_number(s, st);
@@ -926,7 +967,16 @@ fn pguard(
             let a = g.answer;
             match a {
                 Answer::Node(n) => {
-                    let h = literal_part(b"4HA", s, t, g.state, lim, depth, 25, number);
+                    let h = literal_part(
+                        b"4HA",
+                        s,
+                        t,
+                        g.state,
+                        lim,
+                        depth,
+                        kinds::THREAD_SAFE_STATIC_GUARD,
+                        number,
+                    );
                     parsed(t, h, lim, n, 0)
                 }
                 Answer::Refused(_) => g,
@@ -940,13 +990,13 @@ fn pguard(
 fn ptmpl(
     s: &[u8],
     t: &mut [u32],
-    names: &mut [u16; 10],
-    types: &mut [u16; 10],
+    names: &mut Entries,
+    types: &mut Entries,
     st: Spot,
     lim: Limits,
     depth: u16,
 ) -> Got
-    requires { ⌜ length (now s) ≤ 4096 ⌝ }
+    requires { ⌜ Short (now s) ⌝ }
     ensures { λ r. ⌜ Does (now (s .entry)) (lim .depth) (lim .room) depth (parseOf Template) st (lent (now (t .entry)) (now (names .entry)) (now (types .entry))) plain r (lent (now (t .exit)) (now (names .exit)) (now (types .exit))) ⌝ }
 {
     let g = otmpl(s, t, names, types, st, lim, depth);
@@ -964,13 +1014,13 @@ fn ptmpl(
 fn otmpl(
     s: &[u8],
     t: &mut [u32],
-    names: &mut [u16; 10],
-    types: &mut [u16; 10],
+    names: &mut Entries,
+    types: &mut Entries,
     st: Spot,
     lim: Limits,
     depth: u16,
 ) -> Got
-    requires { ⌜ length (now s) ≤ 4096 ⌝ }
+    requires { ⌜ Short (now s) ⌝ }
     ensures { λ r. ⌜ Reads (now (s .entry)) (lim .depth) (lim .room) depth OuterTemplate st (lent (now (t .entry)) (now (names .entry)) (now (types .entry))) plain r (lent (now (t .exit)) (now (names .exit)) (now (types .exit))) ⌝ }
 {
     if depth == 0 {
@@ -979,20 +1029,20 @@ fn otmpl(
 
     let left = depth - 1;
     let g = oname(s, t, names, types, opened(st, lim.depth, left), lim, left);
-    above(t, g, lim, 4, 0, 0)
+    above(t, g, lim, kinds::SYMBOL, 0, 0)
 }
 
 // Its name.
 fn oname(
     s: &[u8],
     t: &mut [u32],
-    names: &mut [u16; 10],
-    types: &mut [u16; 10],
+    names: &mut Entries,
+    types: &mut Entries,
     st: Spot,
     lim: Limits,
     depth: u16,
 ) -> Got
-    requires { ⌜ length (now s) ≤ 4096 ⌝ }
+    requires { ⌜ Short (now s) ⌝ }
     ensures { λ r. ⌜ Reads (now (s .entry)) (lim .depth) (lim .room) depth OuterName st (lent (now (t .entry)) (now (names .entry)) (now (types .entry))) plain r (lent (now (t .exit)) (now (names .exit)) (now (types .exit))) ⌝ }
 {
     if depth == 0 {
@@ -1007,13 +1057,13 @@ fn oname(
 fn oguard(
     s: &[u8],
     t: &mut [u32],
-    names: &mut [u16; 10],
-    types: &mut [u16; 10],
+    names: &mut Entries,
+    types: &mut Entries,
     st: Spot,
     lim: Limits,
     depth: u16,
 ) -> Got
-    requires { ⌜ length (now s) ≤ 4096 ⌝ }
+    requires { ⌜ Short (now s) ⌝ }
     ensures { λ r. ⌜ Reads (now (s .entry)) (lim .depth) (lim .room) depth OuterGuard st (lent (now (t .entry)) (now (names .entry)) (now (types .entry))) plain r (lent (now (t .exit)) (now (names .exit)) (now (types .exit))) ⌝ }
 {
     if depth == 0 {
@@ -1026,7 +1076,12 @@ fn oguard(
     match a {
         Answer::Node(n) => {
             let l = scope(s, t, names, types, g.state, lim, left);
-            over(t, l, lim, made(5, (n as u32) + 1, 0, 0, 0, 0, 0))
+            over(
+                t,
+                l,
+                lim,
+                made(kinds::OUTER_SYMBOL, (n as u32) + 1, 0, 0, 0, 0, 0),
+            )
         }
         Answer::Refused(_) => g,
     }
@@ -1036,13 +1091,13 @@ fn oguard(
 fn sym(
     s: &[u8],
     t: &mut [u32],
-    names: &mut [u16; 10],
-    types: &mut [u16; 10],
+    names: &mut Entries,
+    types: &mut Entries,
     st: Spot,
     lim: Limits,
     depth: u16,
 ) -> Got
-    requires { ⌜ length (now s) ≤ 4096 ⌝ }
+    requires { ⌜ Short (now s) ⌝ }
     ensures { λ r. ⌜ Reads (now (s .entry)) (lim .depth) (lim .room) depth SymbolType st (lent (now (t .entry)) (now (names .entry)) (now (types .entry))) plain r (lent (now (t .exit)) (now (names .exit)) (now (types .exit))) ⌝ }
 {
     if depth == 0 {
@@ -1077,14 +1132,14 @@ fn sym(
 fn var(
     s: &[u8],
     t: &mut [u32],
-    names: &mut [u16; 10],
-    types: &mut [u16; 10],
+    names: &mut Entries,
+    types: &mut Entries,
     st: Spot,
     lim: Limits,
     depth: u16,
     kind: u32,
 ) -> Got
-    requires { ⌜ length (now s) ≤ 4096 ⌝ }
+    requires { ⌜ Short (now s) ⌝ }
     ensures { λ r. ⌜ Does (now (s .entry)) (lim .depth) (lim .room) depth (shapeSymbol (Variable kind)) st (lent (now (t .entry)) (now (names .entry)) (now (types .entry))) plain r (lent (now (t .exit)) (now (names .exit)) (now (types .exit))) ⌝ }
 {
     let g = vtype(s, t, names, types, st, lim, depth, 0);
@@ -1096,7 +1151,7 @@ fn var(
                 t,
                 c.state,
                 lim,
-                made(32, (n as u32) + 1, 0, 0, c.bits, kind, 0),
+                made(kinds::VAR, (n as u32) + 1, 0, 0, c.bits, kind, 0),
             )
         }
         Answer::Refused(_) => g,

@@ -4,14 +4,20 @@ ghost use mathlib.Core.List.{List, [], _∷_};
 ghost use Prim.Native.Nat.{ℕ, _≤_, _-_};
 ghost use lib.ListN.{length};
 ghost use lib.Dec.{eqb};
+ghost use Rattle.node.specs.Kind.{kindNumber, ParseResult, RttiBaseClassDescriptor};
 ghost use Rattle.grammar.specs.Table.{laid};
 ghost use Rattle.grammar.specs.Grammar.{to, NoType, MdFive, OuterMd5, parseOf, listEnd, isGuard};
 ghost use Rattle.forms.specs.declared.begins.ParseForm.the-variants.{Md5};
 ghost use Rattle.steps.specs.Does.{plain, guarded, sized, Lent, lent, Does, Reads, Follows, Shuts, Tops};
 ghost use Rattle.ends.specs.Ends.{Opens, keptName, leafName, storedUnless, literalOf, listStops, ended, Kept, paramEnd, templateEnd, arrayEnd};
+ghost use Rattle.scan.specs.Limits.{Short};
+use grammar::Entries;
 use grammar::Memo;
 use grammar::Refusal;
 use node::Node;
+use node::kinds;
+use operators::LOCAL_STATIC_GUARD;
+use operators::LOCAL_STATIC_THREAD_GUARD;
 use steps::close::above;
 use steps::close::beside;
 use steps::close::made;
@@ -33,7 +39,7 @@ use steps::state::opened;
 use steps::state::refused;
 
 // The name that g found, stored.
-pub fn memorized(s: &[u8], t: &[u32], names: &mut [u16; 10], g: Got) -> Got
+pub fn memorized(s: &[u8], t: &[u32], names: &mut Entries, g: Got) -> Got
     ensures { λ r. ⌜ ((types : List ℕ) (limit room d : ℕ) → Follows (now (s .entry)) limit room d plain g (lent (now (t .entry)) (now (names .entry)) types) keptName plain r (lent (now (t .entry)) (now (names .exit)) types)) ⌝ }
 {
     let a = g.answer;
@@ -44,7 +50,7 @@ pub fn memorized(s: &[u8], t: &[u32], names: &mut [u16; 10], g: Got) -> Got
 }
 
 // The name of a template, which is stored but for a function's own, and is no guard's.
-pub fn stored_unless(s: &[u8], t: &[u32], names: &mut [u16; 10], g: Got, function: bool) -> Got
+pub fn stored_unless(s: &[u8], t: &[u32], names: &mut Entries, g: Got, function: bool) -> Got
     ensures { λ r. ⌜ ((types : List ℕ) (limit room d : ℕ) → Follows (now (s .entry)) limit room d plain g (lent (now (t .entry)) (now (names .entry)) types) (storedUnless function) guarded r (lent (now (t .entry)) (now (names .exit)) types)) ⌝ }
 {
     let a = g.answer;
@@ -63,7 +69,7 @@ pub fn stored_unless(s: &[u8], t: &[u32], names: &mut [u16; 10], g: Got, functio
 pub fn leaf_name(
     s: &[u8],
     t: &mut [u32],
-    names: &mut [u16; 10],
+    names: &mut Entries,
     st: Spot,
     lim: Limits,
     kind: u32,
@@ -84,10 +90,10 @@ pub fn leaf_name(
 pub fn guard_of(operator: u32) -> u32
     ensures { λ r. ⌜ eqb r 1 ≡ isGuard operator ⌝ }
 {
-    if operator == 47 {
+    if operator == LOCAL_STATIC_GUARD {
         return 1;
     }
-    if operator == 74 {
+    if operator == LOCAL_STATIC_THREAD_GUARD {
         return 1;
     }
     0
@@ -104,7 +110,7 @@ pub fn literal_part(
     kind: u32,
     p: u32,
 ) -> Got
-    requires { ⌜ length (now s) ≤ 4096 ⌝ }
+    requires { ⌜ Short (now s) ⌝ }
     ensures { λ r. ⌜ ((numbers names types : List ℕ) → laid kind 0 numbers [] ≡ laid kind 0 (p ∷ []) [] → Opens (now (s .entry)) (lim .depth) (lim .room) depth (literalOf (now (literal .entry)) kind numbers) st (lent (now (t .entry)) names types) plain r (lent (now (t .exit)) names types)) ⌝ }
 {
     if depth == 0 {
@@ -125,7 +131,7 @@ pub fn no_type(t: &mut [u32], st: Spot, lim: Limits, depth: u16) -> Got
     if depth == 0 {
         return refused(Refusal::Deep, st);
     }
-    shut_leaf(t, opened(st, lim.depth, depth - 1), lim, 17, 0, 0)
+    shut_leaf(t, opened(st, lim.depth, depth - 1), lim, kinds::NONE, 0, 0)
 }
 
 // n less one, or 0.
@@ -136,7 +142,7 @@ pub fn less_one(n: u32) -> u32
 }
 
 fn md5_name(s: &[u8], t: &mut [u32], st: Spot, lim: Limits, depth: u16) -> Got
-    requires { ⌜ length (now s) ≤ 4096 ⌝ }
+    requires { ⌜ Short (now s) ⌝ }
     ensures { λ r. ⌜ ((names types : List ℕ) → Reads (now (s .entry)) (lim .depth) (lim .room) depth MdFive st (lent (now (t .entry)) names types) plain r (lent (now (t .exit)) names types)) ⌝ }
 {
     if depth == 0 {
@@ -145,25 +151,25 @@ fn md5_name(s: &[u8], t: &mut [u32], st: Spot, lim: Limits, depth: u16) -> Got
     let k = md5(s, opened(st, lim.depth, depth - 1));
     let v = k.value;
     match v {
-        Value::Is(n) => shut_leaf(t, k.state, lim, 6, st.at as u32, less_one(n)),
+        Value::Is(n) => shut_leaf(t, k.state, lim, kinds::MD5, st.at as u32, less_one(n)),
         Value::Bad => refused(Refusal::Syntax, k.state),
     }
 }
 
 fn md5_symbol(s: &[u8], t: &mut [u32], st: Spot, lim: Limits, depth: u16) -> Got
-    requires { ⌜ length (now s) ≤ 4096 ⌝ }
+    requires { ⌜ Short (now s) ⌝ }
     ensures { λ r. ⌜ ((names types : List ℕ) → Reads (now (s .entry)) (lim .depth) (lim .room) depth OuterMd5 st (lent (now (t .entry)) names types) plain r (lent (now (t .exit)) names types)) ⌝ }
 {
     if depth == 0 {
         return refused(Refusal::Deep, st);
     }
     let g = md5_name(s, t, opened(st, lim.depth, depth - 1), lim, depth - 1);
-    above(t, g, lim, 5, 0, 0)
+    above(t, g, lim, kinds::OUTER_SYMBOL, 0, 0)
 }
 
 // The root, above a symbol and the type that g found.
 pub fn parsed(t: &mut [u32], g: Got, lim: Limits, symbol: u16, index: u32) -> Got
-    ensures { λ r. ⌜ Tops (lim .depth) (lim .room) g (now (t .entry)) (λ n. laid 3 0 (index ∷ []) (to symbol ∷ to n ∷ [])) r (now (t .exit)) ⌝ }
+    ensures { λ r. ⌜ Tops (lim .depth) (lim .room) g (now (t .entry)) (λ n. laid (kindNumber ParseResult) 0 (index ∷ []) (to symbol ∷ to n ∷ [])) r (now (t .exit)) ⌝ }
 {
     let a = g.answer;
     match a {
@@ -171,7 +177,15 @@ pub fn parsed(t: &mut [u32], g: Got, lim: Limits, symbol: u16, index: u32) -> Go
             t,
             g.state,
             lim,
-            made(3, (symbol as u32) + 1, (n as u32) + 1, 0, index, 0, 0),
+            made(
+                kinds::PARSE_RESULT,
+                (symbol as u32) + 1,
+                (n as u32) + 1,
+                0,
+                index,
+                0,
+                0,
+            ),
         ),
         Answer::Refused(_) => g,
     }
@@ -179,7 +193,7 @@ pub fn parsed(t: &mut [u32], g: Got, lim: Limits, symbol: u16, index: u32) -> Go
 
 // parse behind `??@`.
 pub fn parse_md5(s: &[u8], t: &mut [u32], st: Spot, lim: Limits, depth: u16) -> Got
-    requires { ⌜ length (now s) ≤ 4096 ⌝ }
+    requires { ⌜ Short (now s) ⌝ }
     ensures { λ r. ⌜ ((names types : List ℕ) → Does (now (s .entry)) (lim .depth) (lim .room) depth (parseOf Md5) st (lent (now (t .entry)) names types) plain r (lent (now (t .exit)) names types)) ⌝ }
 {
     let g = md5_symbol(s, t, st, lim, depth);
@@ -209,12 +223,12 @@ pub fn list_stops(s: &[u8], st: Spot) -> bool
 
 // The end of a list of types.
 pub fn list_end(s: &[u8], t: &mut [u32], st: Spot, lim: Limits, depth: u16, last: u16) -> Got
-    requires { ⌜ length (now s) ≤ 4096 ⌝ }
+    requires { ⌜ Short (now s) ⌝ }
     ensures { λ r. ⌜ ((names types : List ℕ) → Does (now (s .entry)) (lim .depth) (lim .room) depth (listEnd last) st (lent (now (t .entry)) names types) plain r (lent (now (t .exit)) names types)) ⌝ }
 {
     if scan::cursor::consume(b"Z", s, st.at as usize) {
-        let g = literal_part(b"Z", s, t, st, lim, depth, 60, 0);
-        return placed(t, g, lim, 2, last);
+        let g = literal_part(b"Z", s, t, st, lim, depth, kinds::VAR_ARGS, 0);
+        return placed(t, g, lim, kinds::TYPE_PLACE, last);
     }
     if s.len() <= (st.at as usize) {
         return found(last, st);
@@ -229,7 +243,7 @@ pub fn list_end(s: &[u8], t: &mut [u32], st: Spot, lim: Limits, depth: u16, last
 
 // The `Z` behind a list.
 pub fn ended(s: &[u8], g: Got) -> Got
-    requires { ⌜ length (now s) ≤ 4096 ⌝ }
+    requires { ⌜ Short (now s) ⌝ }
     ensures { λ r. ⌜ ((limit room d : ℕ) (t : Lent) → Follows (now (s .entry)) limit room d plain g t ended plain r t) ⌝ }
 {
     let a = g.answer;
@@ -247,7 +261,7 @@ pub fn ended(s: &[u8], g: Got) -> Got
 }
 
 // The state with the type n stored, if that took more than one byte from a place on.
-fn kept(s: &[u8], t: &[u32], types: &mut [u16; 10], st: Spot, n: u16, from: u16) -> Spot
+fn kept(s: &[u8], t: &[u32], types: &mut Entries, st: Spot, n: u16, from: u16) -> Spot
     ensures { λ r. ⌜ ((names : List ℕ) → Kept (now (s .entry)) from n st (lent (now (t .entry)) names (now (types .entry))) r (lent (now (t .entry)) names (now (types .exit)))) ⌝ }
 {
     if (from as usize) + 1 < (st.at as usize) {
@@ -260,7 +274,7 @@ fn kept(s: &[u8], t: &[u32], types: &mut [u16; 10], st: Spot, n: u16, from: u16)
 pub fn param_end(
     s: &[u8],
     t: &mut [u32],
-    types: &mut [u16; 10],
+    types: &mut Entries,
     g: Got,
     lim: Limits,
     from: u16,
@@ -274,7 +288,7 @@ pub fn param_end(
             t,
             found(n, kept(s, t, types, g.state, n, from)),
             lim,
-            2,
+            kinds::TYPE_PLACE,
             last,
         ),
         Answer::Refused(_) => g,
@@ -284,8 +298,8 @@ pub fn param_end(
 // A template over the list that g found: the outer memo comes back.
 pub fn template_end(
     t: &mut [u32],
-    names: &mut [u16; 10],
-    types: &mut [u16; 10],
+    names: &mut Entries,
+    types: &mut Entries,
     g: Got,
     lim: Limits,
     name: u16,
@@ -299,7 +313,7 @@ pub fn template_end(
             t,
             put_back(names, types, outer, g.state),
             lim,
-            made(12, (name as u32) + 1, l as u32, 0, 0, 0, 0),
+            made(kinds::TEMPLATE, (name as u32) + 1, l as u32, 0, 0, 0, 0),
         ),
         Answer::Refused(_) => g,
     }
@@ -310,7 +324,7 @@ pub fn array_end(t: &mut [u32], g: Got, lim: Limits, len: u32) -> Got
     ensures { λ r. ⌜ ((s names types : List ℕ) (d : ℕ) → Follows s (lim .depth) (lim .room) d sized g (lent (now (t .entry)) names types) (arrayEnd len) sized r (lent (now (t .exit)) names types)) ⌝ }
 {
     let class = g.extra;
-    beside(above(t, g, lim, 31, class, len), class)
+    beside(above(t, g, lim, kinds::ARRAY, class, len), class)
 }
 
 // A table of the kind over the list that g found.
@@ -326,10 +340,10 @@ pub fn table_end(t: &mut [u32], g: Got, lim: Limits, kind: u32, class: u32) -> G
 
 // The descriptor of a base class.
 pub fn shut_base(t: &mut [u32], st: Spot, lim: Limits, p: u32, q: u32, r: u32, flags: u32) -> Got
-    ensures { λ g. ⌜ Shuts (lim .depth) (lim .room) (laid 9 0 (p ∷ q ∷ r ∷ flags ∷ []) []) st (now (t .entry)) g (now (t .exit)) ⌝ }
+    ensures { λ g. ⌜ Shuts (lim .depth) (lim .room) (laid (kindNumber RttiBaseClassDescriptor) 0 (p ∷ q ∷ r ∷ flags ∷ []) []) st (now (t .entry)) g (now (t .exit)) ⌝ }
 {
     let x = Node {
-        kind: 9,
+        kind: kinds::RTTI_BASE_CLASS_DESCRIPTOR,
         height: 0,
         a: 0,
         b: 0,

@@ -6,7 +6,9 @@ use mathlib.Core.List.{List, [], _∷_}
 use lib.Dec.{leb, ltb, eqb}
 use lib.ListN.{length, getD, set}
 use Rattle.scan.specs.Bytes.{pick}
+use Rattle.node.specs.Cells as cells
 use Rattle.node.specs.Cells.{nodes, cellOf}
+use Rattle.node.specs.Kind.{kindNumber, ParseResult, NonTemplate}
 use Rattle.form.specs.Form.{wellFormed}
 use Rattle.meaning.specs.Tree.{part}
 use Rattle.grammar.specs.declared.State.{State}
@@ -84,10 +86,10 @@ textAfter f depth s t b = kept (gate f depth s) (textLeft f s (tableLeft s depth
 
 -- write alone, for a symbol of len bytes: the last node lent is a ParseResult (3), and all are well formed
 unfoldable pub rooted : ℕ → List ℕ → Bool
-rooted len t = pick (eqb (nodes t) 0) false (pick (wellFormed t len (nodes t)) (eqb (cellOf t (nodes t - 1) 0) 3) false)
+rooted len t = pick (eqb (nodes t) 0) false (pick (wellFormed t len (nodes t)) (eqb (cellOf t (nodes t - 1) cells.KIND) (kindNumber ParseResult)) false)
 
 abbrev pub rootHeight : List ℕ → ℕ
-rootHeight t = cellOf t (nodes t - 1) 1
+rootHeight t = cellOf t (nodes t - 1) cells.HEIGHT
 
 -- 8, then 4, then 6; offsets are 0
 unfoldable pub rootAnswer : ℕ → ℕ → List ℕ → List ℕ → ℕ → Answer
@@ -105,14 +107,14 @@ textAlone f depth s t b = kept (gate f depth s) (rootText f depth s t b) b
 
 -- the name question: node n of a well-formed table is a plain name (NonTemplate, 10)
 unfoldable pub nameOk : ℕ → List ℕ → ℕ → Bool
-nameOk len t n = pick (wellFormed t len (nodes t)) (pick (ltb n (nodes t)) (eqb (cellOf t n 0) 10) false) false
+nameOk len t n = pick (wellFormed t len (nodes t)) (pick (ltb n (nodes t)) (eqb (cellOf t n cells.KIND) (kindNumber NonTemplate)) false) false
 
 unfoldable pub nameAnswer : List ℕ → List ℕ → ℕ → Answer
 nameAnswer s t n = through (symbolGate s) (pick (nameOk (length s) t n) (Answered (record { offset = 0; depth = 0; nodes = 0; text = 0 })) BadTable)
 
 -- that part of the symbol; its empty beginning on a refusal
 unfoldable pub nameOf : List ℕ → List ℕ → ℕ → List ℕ
-nameOf s t n = kept (symbolGate s) (pick (nameOk (length s) t n) (part s (cellOf t n 7) (cellOf t n 8)) []) []
+nameOf s t n = kept (symbolGate s) (pick (nameOk (length s) t n) (part s (cellOf t n cells.P) (cellOf t n cells.Q)) []) []
 
 -- five places of a caller's report, filled
 abbrev pub filled : List ℕ → ℕ → ℕ → ℕ → ℕ → ℕ → List ℕ
@@ -126,4 +128,4 @@ isAnswered a = eqb (getD (reportOf a) 0 0) 0
 
 -- the report of the name question: an answered one has the name's start and length in its last two places
 abbrev pub nameReport : List ℕ → List ℕ → ℕ → List ℕ → List ℕ
-nameReport s t n out = pick (isAnswered (nameAnswer s t n)) (filled (reported (nameAnswer s t n) out) 0 0 0 (cellOf t n 7) (cellOf t n 8)) (reported (nameAnswer s t n) out)
+nameReport s t n out = pick (isAnswered (nameAnswer s t n)) (filled (reported (nameAnswer s t n) out) 0 0 0 (cellOf t n cells.P) (cellOf t n cells.Q)) (reported (nameAnswer s t n) out)

@@ -6,6 +6,7 @@ use crate::Answer;
 use crate::demangle;
 use crate::name_question;
 use crate::write_table;
+use node::cells;
 
 fn fill_report(report: &mut [u64; 5], number: u64, offset: u64, depth: u64, nodes: u64, text: u64)
     ensures { λ _. ⌜ now (report .exit) ≡ filled (now (report .entry)) number offset depth nodes text ⌝ }
@@ -121,8 +122,8 @@ pub extern "C" fn farthingmoss_name(symbol: &[u8], table: &[u32], n: u64, report
             0,
             0,
             0,
-            node::cell(table, i, 7) as u64,
-            node::cell(table, i, 8) as u64,
+            node::cell(table, i, cells::P) as u64,
+            node::cell(table, i, cells::Q) as u64,
         );
     }
 }

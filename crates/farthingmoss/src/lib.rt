@@ -10,6 +10,8 @@ use gates::call_gate;
 use gates::symbol_gate;
 use grammar::Refusal;
 use grammar::State;
+use node::cells;
+use node::kinds;
 use reader::Whole;
 use writer::Written;
 
@@ -31,10 +33,6 @@ pub enum Answer {
     BadCall,
     BadTable,
 }
-
-const PARSE_RESULT: usize = 3;
-
-const PLAIN_NAME: usize = 10;
 
 // A text written whole or cut, in a room.
 fn fit(offset: usize, depth: usize, nodes: usize, room: usize, w: Written) -> Answer
@@ -111,7 +109,7 @@ fn is_rooted(table: &[u32], len: usize) -> bool
         return false;
     }
     if form::is_well_formed(table, len) {
-        return node::cell(table, count - 1, 0) == PARSE_RESULT;
+        return node::kind(table, count - 1) == kinds::PARSE_RESULT;
     }
     false
 }
@@ -125,7 +123,7 @@ fn write_root(symbol: &[u8], flags: u32, depth: u32, table: &[u32], text: &mut [
         return Answer::BadTable;
     }
     let count = node::room(table);
-    let height = node::cell(table, count - 1, 1);
+    let height = node::cell(table, count - 1, cells::HEIGHT);
     if (depth as usize) < height {
         return Answer::TooDeep(0);
     }
@@ -160,7 +158,7 @@ fn is_name(table: &[u32], len: usize, n: u64) -> bool
     if node::room(table) <= i {
         return false;
     }
-    node::cell(table, i, 0) == PLAIN_NAME
+    node::kind(table, i) == kinds::NON_TEMPLATE
 }
 
 // Whether node n is a plain name: the number and the offset of the answer.
@@ -197,7 +195,11 @@ pub fn name_part<'a>(symbol: &'a [u8], table: &[u32], n: u64) -> &'a [u8]
         Gate::Open => {
             if is_name(table, symbol.len(), n) {
                 let i = n as usize;
-                return meaning::part_of(symbol, node::cell(table, i, 7), node::cell(table, i, 8));
+                return meaning::part_of(
+                    symbol,
+                    node::cell(table, i, cells::P),
+                    node::cell(table, i, cells::Q),
+                );
             }
             &symbol[..0]
         }

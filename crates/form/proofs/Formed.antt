@@ -4,14 +4,13 @@ use mathlib.Core.Bool.{Bool, true, false, cond}
 use mathlib.Core.Path.{_≡_, refl, sym, ap, ap₂, _∙_}
 use mathlib.Core.List.{List, []}
 use native.Mathlib.Numerals.{add-one}
-use native.Mathlib.Decide.{ℕ-discrete, decLe}
+use native.Mathlib.Decide.{ℕ-discrete}
 use native.Mathlib.Omega.{arith}
-use lib.Dec.{leb, eqb}
+use lib.Dec.{leb}
 use lib.ListN.{List·getD-eq-default}
-use borrow.Author.Tests.{ne-eqb, lt-leb}
 use Rattle.node.specs.Cells.{cellOf}
 use Rattle.form.specs.Kinds.{shapes, shapeOf, wholeShape}
-use Rattle.form.specs.Form.{refOk, numberOk, refsOk, nodeOk, wellFormed}
+use Rattle.form.specs.Form.{refOk, numberOk, nodeOk, wellFormed}
 
 true-false : {A : Type 0} → true ≡ false → A
 true-false e = let z : _≡_ {A = ℕ} 0 1 = cc in absurd (omega arith)
@@ -24,10 +23,6 @@ cond-right : (a b : Bool) → cond a b false ≡ true → b ≡ true
 cond-right true b e = e
 cond-right false b e = true-false (sym e)
 
-cond-else : (a b : Bool) → cond a false b ≡ true → b ≡ true
-cond-else true b e = true-false (sym e)
-cond-else false b e = e
-
 -- a kind that is not known has the shape of none
 pub no-shape : (kind : ℕ) → 64 ≤ kind → wholeShape 0 ≡ wholeShape kind
 unfolding wholeShape shapeOf
@@ -35,15 +30,6 @@ no-shape kind h = rw (List·getD-eq-default shapes [] h)
 
 pub past : (k : ℕ) → 63 ≤ k → (k ≡ 63 → ⊥) → 64 ≤ k
 past k h off = omega (arith, off)
-
--- a reference that is right is at most the node's own number
-pub ref-le : (t : List ℕ) (n mask r : ℕ) → refOk t n mask r ≡ true → r ≤ n
-unfolding refOk
-ref-le t n mask r e = pick (decLe r n)
-  where
-    pick : Dec (r ≤ n) → r ≤ n
-    pick (yes h) = h
-    pick (no h) = true-false (sym e ∙ rw (ne-eqb r 0 (λ q. h (omega arith)), lt-leb r n (omega (arith, h))))
 
 -- a reference's test, from what the code read for it
 pub ref-reads : (t : List ℕ) (n j i : ℕ) {mask r : ℕ} {x : Bool} → x ≡ refOk t n mask r → mask ≡ shapeOf (cellOf t n 0) j → r ≡ cellOf t n i → x ≡ refOk t n (shapeOf (cellOf t n 0) j) (cellOf t n i)
@@ -53,29 +39,6 @@ ref-reads t n j i e em er = e ∙ ap₂ (refOk t n) em er
 pub number-reads : (t : List ℕ) (n j : ℕ) {x most : ℕ} → x ≡ cellOf t n (7 + j) → most ≡ shapeOf (cellOf t n 0) (4 + j) → leb x most ≡ numberOk t n j
 unfolding numberOk
 number-reads t n j e em = ap₂ leb e em
-
-three : (a b c : Bool) → cond a (cond b c false) false ≡ true → (a ≡ true) × (b ≡ true) × (c ≡ true)
-three true true c e = (refl, refl, e)
-three true false c e = true-false (sym e)
-three false b c e = true-false (sym e)
-
-refs-le : (t : List ℕ) (n : ℕ) → refsOk t n ≡ true → (cellOf t n 4 ≤ n) × (cellOf t n 5 ≤ n) × (cellOf t n 6 ≤ n)
-unfolding refsOk
-refs-le t n e =
-    let kind : ℕ = cellOf t n 0 in
-    let r = three (refOk t n (shapeOf kind 1) (cellOf t n 4)) (refOk t n (shapeOf kind 2) (cellOf t n 5)) (refOk t n (shapeOf kind 3) (cellOf t n 6)) e in (
-      ref-le t n (shapeOf kind 1) (cellOf t n 4) (r .0),
-      ref-le t n (shapeOf kind 2) (cellOf t n 5) (r .1),
-      ref-le t n (shapeOf kind 3) (cellOf t n 6) (r .2),
-    )
-
-ok-refs : (t : List ℕ) (len n : ℕ) → nodeOk t len n ≡ true → refsOk t n ≡ true
-unfolding nodeOk
-ok-refs t len n e = cond-left (refsOk t n) _ (cond-else (eqb (shapeOf (cellOf t n 0) 0) 0) _ e)
-
--- the references of a well-formed node are at most its own number: what they name stands before it
-pub ok-refs-le : (t : List ℕ) (len n : ℕ) → nodeOk t len n ≡ true → (cellOf t n 4 ≤ n) × (cellOf t n 5 ≤ n) × (cellOf t n 6 ≤ n)
-ok-refs-le t len n e = refs-le t n (ok-refs t len n e)
 
 pub formed-more : (t : List ℕ) (len k : ℕ) → wellFormed t len k ≡ true → nodeOk t len k ≡ true → wellFormed t len (k + 1) ≡ true
 unfolding wellFormed

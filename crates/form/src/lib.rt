@@ -1,11 +1,53 @@
 // Whether a node table is well formed: what a reading can leave.
 ghost use mathlib.Core.Path.{_≡_};
 ghost use Prim.Native.Nat.{_≤_, _<_, max};
-ghost use Rattle.node.specs.Cells.{nodes, cellOf};
+ghost use Rattle.node.specs.Cells.{nodes, cellOf, KIND};
+ghost use Rattle.node.specs.Kind.{kindNumber, MemberFunction};
 ghost use Rattle.form.specs.Kinds.{wholeShape};
 ghost use Rattle.form.specs.Form.{fits, refOk, heightOk, numbersOk, rangeOk, restOk, refsOk, nodeOk, wellFormed};
+
+mod classes;
+
+use crate::classes::ACCESS;
+use crate::classes::ANY;
+use crate::classes::CLASS;
+use crate::classes::CONV;
+use crate::classes::ENTRY;
+use crate::classes::FUNCTION;
+use crate::classes::GUARD;
+use crate::classes::LAST_OPERATOR;
+use crate::classes::LIST;
+use crate::classes::MD5;
+use crate::classes::NAMES;
+use crate::classes::NESTED;
+use crate::classes::NO_TYPE;
+use crate::classes::NONE;
+use crate::classes::OPERATOR;
+use crate::classes::OUTER;
+use crate::classes::OUTER_NAME;
+use crate::classes::OUTER_TYPE;
+use crate::classes::OWN_NAME;
+use crate::classes::PARAMETER;
+use crate::classes::PARSED;
+use crate::classes::PLAIN;
+use crate::classes::RANGED;
+use crate::classes::RETURN;
+use crate::classes::ROOT_NAME;
+use crate::classes::ROOT_TYPE;
+use crate::classes::SCOPE;
+use crate::classes::SCOPED;
+use crate::classes::STORAGE;
+use crate::classes::SYMBOL;
+use crate::classes::TEMPLATED;
+use crate::classes::TYPE;
+use crate::classes::TYPES;
+use crate::classes::VAR_ARGS;
+use crate::classes::VAR_TYPE;
 use node::cell;
+use node::cells;
 use node::height;
+use node::kind;
+use node::kinds;
 use node::room;
 
 // A kind's shape: its class; what its three references may be; the largest of its four numbers; 1 where the first two are a range.
@@ -21,9 +63,7 @@ struct Shape {
     ranged: usize,
 }
 
-const ANY: usize = 4294967295;
-
-const FIRST_TYPE: usize = 18;
+const FIRST_TYPE: u32 = kinds::MEMBER_FUNCTION;
 
 fn row(
     class: usize,
@@ -51,61 +91,81 @@ fn row(
     }
 }
 
-// The shape of a kind below 18: places, symbols, names.
-fn name_shape(kind: usize) -> Shape
-    requires { ⌜ kind < 18 ⌝ }
+// The shape of a kind before the types: places, symbols, names.
+fn name_shape(kind: u32) -> Shape
+    requires { ⌜ kind < kindNumber MemberFunction ⌝ }
     ensures { λ x. ⌜ x ≡ wholeShape kind ⌝ }
 {
     match kind {
-        1 => row(64, 65, 14, 1, 0, 0, 0, 0, 0), // NamePlace
-        2 => row(128, 129, 14336, 1, 0, 0, 0, 0, 0), // TypePlace
-        3 => row(1024, 768, 53248, 1, 2147483648, 0, 0, 0, 0), // ParseResult
-        4 => row(256, 22, 65, 1, 0, 0, 0, 0, 0), // Symbol
-        5 => row(512, 46, 65, 1, 0, 0, 0, 0, 0), // OuterSymbol
-        6 => row(32, 1, 1, 1, ANY, ANY, 0, 0, 1), // Md5
-        7 => row(16, 1, 1, 1, 74, 0, 0, 0, 0), // Operator
-        8 => row(16, 6144, 1, 1, 511, 0, 0, 0, 0), // RttiTypeDescriptor
-        9 => row(16, 1, 1, 1, ANY, ANY, ANY, ANY, 0), // RttiBaseClassDescriptor
-        10 => row(2, 1, 1, 1, ANY, ANY, 0, 0, 1), // NonTemplate
-        11 => row(4, 1, 1, 1, ANY, ANY, 0, 0, 1), // AsInterface
-        12 => row(2, 18, 129, 1, 0, 0, 0, 0, 0), // Template
-        13 => row(8, 1, 1, 1, ANY, 0, 0, 0, 0), // Discriminator
-        14 => row(8, 1024, 1, 1, 0, 0, 0, 0, 0), // ParsedName
-        15 => row(4, 1, 1, 1, ANY, ANY, 0, 0, 1), // AnonymousId
-        16 => row(8, 1, 1, 1, 0, 0, 0, 0, 0), // Anonymous
-        17 => row(16384, 1, 1, 1, 0, 0, 0, 0, 0), // None
+        kinds::NAME_PLACE => row(NAMES, SCOPE, ENTRY, NONE, 0, 0, 0, 0, 0),
+        kinds::TYPE_PLACE => row(TYPES, LIST, PARAMETER, NONE, 0, 0, 0, 0, 0),
+        kinds::PARSE_RESULT => row(PARSED, ROOT_NAME, ROOT_TYPE, NONE, GUARD, 0, 0, 0, 0),
+        kinds::SYMBOL => row(SYMBOL, OWN_NAME, SCOPE, NONE, 0, 0, 0, 0, 0),
+        kinds::OUTER_SYMBOL => row(OUTER, OUTER_NAME, SCOPE, NONE, 0, 0, 0, 0, 0),
+        kinds::MD5 => row(MD5, NONE, NONE, NONE, ANY, ANY, 0, 0, RANGED),
+        kinds::OPERATOR => row(OPERATOR, NONE, NONE, NONE, LAST_OPERATOR, 0, 0, 0, 0),
+        kinds::RTTI_TYPE_DESCRIPTOR => row(OPERATOR, TYPE, NONE, NONE, CLASS, 0, 0, 0, 0),
+        kinds::RTTI_BASE_CLASS_DESCRIPTOR => row(OPERATOR, NONE, NONE, NONE, ANY, ANY, ANY, ANY, 0),
+        kinds::NON_TEMPLATE => row(PLAIN, NONE, NONE, NONE, ANY, ANY, 0, 0, RANGED),
+        kinds::AS_INTERFACE => row(SCOPED, NONE, NONE, NONE, ANY, ANY, 0, 0, RANGED),
+        kinds::TEMPLATE => row(PLAIN, TEMPLATED, LIST, NONE, 0, 0, 0, 0, 0),
+        kinds::DISCRIMINATOR => row(NESTED, NONE, NONE, NONE, ANY, 0, 0, 0, 0),
+        kinds::PARSED_NAME => row(NESTED, PARSED, NONE, NONE, 0, 0, 0, 0, 0),
+        kinds::ANONYMOUS_ID => row(SCOPED, NONE, NONE, NONE, ANY, ANY, 0, 0, RANGED),
+        kinds::ANONYMOUS => row(NESTED, NONE, NONE, NONE, 0, 0, 0, 0, 0),
+        kinds::NONE => row(NO_TYPE, NONE, NONE, NONE, 0, 0, 0, 0, 0),
         _ => row(0, 0, 0, 0, 0, 0, 0, 0, 0),
     }
 }
 
-// The shape of any other kind: types.
-fn type_shape(kind: usize) -> Shape
-    requires { ⌜ 18 ≤ kind ⌝ }
+// The shape of any other kind, a row each: types.
+fn type_shape(kind: u32) -> Shape
+    requires { ⌜ kindNumber MemberFunction ≤ kind ⌝ }
     ensures { λ x. ⌜ x ≡ wholeShape kind ⌝ }
 {
     match kind {
-        18 => row(32768, 22528, 129, 1, 511, 4, 255, 0, 0), // MemberFunction
-        19 => row(2048, 22528, 129, 256, 511, 4, 255, 0, 0), // MemberFunctionPointer
-        20 => row(4096, 6144, 129, 1, 511, 4, 0, 0, 0), // NonMemberFunction
-        21..=22 => row(32768, 65, 1, 1, 511, 0, 0, 0, 0), // CXXVBTable to CXXVFTable
-        23 => row(32768, 1, 1, 1, ANY, 4, 0, 0, 0), // VCallThunk
-        24 => row(2048, 1, 1, 1, ANY, 0, 0, 0, 0), // TemplateParameterWithIndex
-        25 => row(32768, 1, 1, 1, ANY, 0, 0, 0, 0), // ThreadSafeStaticGuard
-        26 => row(2048, 1, 1, 1, ANY, 0, 0, 0, 0), // Constant
-        27 => row(32768, 1, 1, 1, ANY, ANY, 0, 0, 1), // ConstantString
-        28..=30 => row(2048, 6144, 1, 1, 511, 0, 0, 0, 0), // Ptr to RValueRef
-        31 => row(2048, 6144, 1, 1, 511, ANY, 0, 0, 0), // Array
-        32 => row(32768, 6144, 1, 1, 511, 4, 0, 0, 0), // Var
-        33..=37 => row(2048, 256, 1, 1, 511, 0, 0, 0, 0), // Alias to Enum
-        38..=59 => row(2048, 1, 1, 1, 511, 0, 0, 0, 0), // Void to Ldouble
-        60 => row(8192, 1, 1, 1, 0, 0, 0, 0, 0), // VarArgs
-        61..=62 => row(2048, 1, 1, 1, 0, 0, 0, 0, 0), // EmptyParameterPack to Nullptr
-        63 => row(32768, 1, 1, 1, 0, 0, 0, 0, 0), // RTTIType
+        kinds::MEMBER_FUNCTION => row(OUTER_TYPE, RETURN, LIST, NONE, CLASS, CONV, ACCESS, 0, 0),
+        kinds::MEMBER_FUNCTION_POINTER => row(
+            VAR_TYPE,
+            RETURN,
+            LIST,
+            SYMBOL,
+            CLASS,
+            CONV,
+            ACCESS,
+            0,
+            0,
+        ),
+        kinds::NON_MEMBER_FUNCTION => row(FUNCTION, TYPE, LIST, NONE, CLASS, CONV, 0, 0, 0),
+        kinds::VBTABLE..=kinds::VFTABLE => row(OUTER_TYPE, SCOPE, NONE, NONE, CLASS, 0, 0, 0, 0),
+        kinds::VCALL_THUNK => row(OUTER_TYPE, NONE, NONE, NONE, ANY, CONV, 0, 0, 0),
+        kinds::TEMPLATE_PARAMETER_WITH_INDEX => row(VAR_TYPE, NONE, NONE, NONE, ANY, 0, 0, 0, 0),
+        kinds::THREAD_SAFE_STATIC_GUARD => row(OUTER_TYPE, NONE, NONE, NONE, ANY, 0, 0, 0, 0),
+        kinds::CONSTANT => row(VAR_TYPE, NONE, NONE, NONE, ANY, 0, 0, 0, 0),
+        kinds::CONSTANT_STRING => row(OUTER_TYPE, NONE, NONE, NONE, ANY, ANY, 0, 0, RANGED),
+        kinds::PTR..=kinds::RVALUE_REF => row(VAR_TYPE, TYPE, NONE, NONE, CLASS, 0, 0, 0, 0),
+        kinds::ARRAY => row(VAR_TYPE, TYPE, NONE, NONE, CLASS, ANY, 0, 0, 0),
+        kinds::VAR => row(OUTER_TYPE, TYPE, NONE, NONE, CLASS, STORAGE, 0, 0, 0),
+        kinds::ALIAS..=kinds::ENUM => row(VAR_TYPE, SYMBOL, NONE, NONE, CLASS, 0, 0, 0, 0),
+        kinds::VOID..=kinds::LDOUBLE => row(VAR_TYPE, NONE, NONE, NONE, CLASS, 0, 0, 0, 0),
+        kinds::VAR_ARGS => row(VAR_ARGS, NONE, NONE, NONE, 0, 0, 0, 0, 0),
+        kinds::EMPTY_PARAMETER_PACK..=kinds::NULLPTR => row(
+            VAR_TYPE,
+            NONE,
+            NONE,
+            NONE,
+            0,
+            0,
+            0,
+            0,
+            0,
+        ),
+        kinds::RTTI_TYPE => row(OUTER_TYPE, NONE, NONE, NONE, 0, 0, 0, 0, 0),
         _ => row(0, 0, 0, 0, 0, 0, 0, 0, 0),
     }
 }
 
-fn shape_of(kind: usize) -> Shape
+fn shape_of(kind: u32) -> Shape
     ensures { λ x. ⌜ x ≡ wholeShape kind ⌝ }
 {
     if kind < FIRST_TYPE {
@@ -135,7 +195,7 @@ fn is_ref_ok(table: &[u32], n: usize, mask: usize, r: usize) -> bool
     if n <= m {
         return false;
     }
-    let found = shape_of(cell(table, m, 0));
+    let found = shape_of(kind(table, m));
     is_fit(mask, found.class)
 }
 
@@ -149,13 +209,13 @@ fn larger(a: usize, b: usize) -> usize
 fn is_height_ok(table: &[u32], n: usize) -> bool
     ensures { λ x. ⌜ x ≡ heightOk (now (table .entry)) n ⌝ }
 {
-    let a = height(table, cell(table, n, 4));
-    let b = height(table, cell(table, n, 5));
-    let c = height(table, cell(table, n, 6));
+    let a = height(table, cell(table, n, cells::A));
+    let b = height(table, cell(table, n, cells::B));
+    let c = height(table, cell(table, n, cells::C));
     let top = larger(larger(a, b), c);
-    let kind = cell(table, n, 0);
-    let h = cell(table, n, 1);
-    if kind <= 2 {
+    let k = kind(table, n);
+    let h = cell(table, n, cells::HEIGHT);
+    if k <= kinds::TYPE_PLACE {
         return h == top;
     }
     h == top + 1
@@ -163,64 +223,64 @@ fn is_height_ok(table: &[u32], n: usize) -> bool
 
 // Whether each number of node n is no larger than its kind allows.
 fn are_numbers_ok(table: &[u32], n: usize, shape: Shape) -> bool
-    requires { ⌜ shape ≡ wholeShape (cellOf (now table) n 0) ⌝ }
+    requires { ⌜ shape ≡ wholeShape (cellOf (now table) n KIND) ⌝ }
     ensures { λ x. ⌜ x ≡ numbersOk (now (table .entry)) n ⌝ }
 {
-    if shape.p < cell(table, n, 7) {
+    if shape.p < cell(table, n, cells::P) {
         return false;
     }
-    if shape.q < cell(table, n, 8) {
+    if shape.q < cell(table, n, cells::Q) {
         return false;
     }
-    if shape.r < cell(table, n, 9) {
+    if shape.r < cell(table, n, cells::R) {
         return false;
     }
-    cell(table, n, 10) <= shape.s
+    cell(table, n, cells::S) <= shape.s
 }
 
 // Whether the bytes that a node names lie in a symbol of len bytes.
 fn is_range_ok(table: &[u32], len: usize, n: usize, shape: Shape) -> bool
-    requires { ⌜ shape ≡ wholeShape (cellOf (now table) n 0) ⌝ }
+    requires { ⌜ shape ≡ wholeShape (cellOf (now table) n KIND) ⌝ }
     ensures { λ x. ⌜ x ≡ rangeOk (now (table .entry)) len n ⌝ }
 {
     if shape.ranged == 0 {
         return true;
     }
-    cell(table, n, 7) + cell(table, n, 8) <= len
+    cell(table, n, cells::P) + cell(table, n, cells::Q) <= len
 }
 
 // Whether the cells that no kind uses are 0.
 fn is_rest_ok(table: &[u32], n: usize) -> bool
     ensures { λ x. ⌜ x ≡ restOk (now (table .entry)) n ⌝ }
 {
-    if cell(table, n, 2) != 0 {
+    if cell(table, n, cells::FROM) != 0 {
         return false;
     }
-    if cell(table, n, 3) != 0 {
+    if cell(table, n, cells::TO) != 0 {
         return false;
     }
-    cell(table, n, 11) == 0
+    cell(table, n, cells::LAST) == 0
 }
 
 // Whether the three references of a node name what its kind asks for.
 fn are_refs_ok(table: &[u32], n: usize, shape: Shape) -> bool
-    requires { ⌜ shape ≡ wholeShape (cellOf (now table) n 0) ⌝ }
+    requires { ⌜ shape ≡ wholeShape (cellOf (now table) n KIND) ⌝ }
     ensures { λ x. ⌜ x ≡ refsOk (now (table .entry)) n ⌝ }
 {
-    if !is_ref_ok(table, n, shape.a, cell(table, n, 4)) {
+    if !is_ref_ok(table, n, shape.a, cell(table, n, cells::A)) {
         return false;
     }
-    if !is_ref_ok(table, n, shape.b, cell(table, n, 5)) {
+    if !is_ref_ok(table, n, shape.b, cell(table, n, cells::B)) {
         return false;
     }
-    is_ref_ok(table, n, shape.c, cell(table, n, 6))
+    is_ref_ok(table, n, shape.c, cell(table, n, cells::C))
 }
 
 // Whether a node is well formed, in a table for a symbol of len bytes.
 fn is_node_ok(table: &[u32], len: usize, n: usize) -> bool
     ensures { λ x. ⌜ x ≡ nodeOk (now (table .entry)) len n ⌝ }
 {
-    let shape = shape_of(cell(table, n, 0));
+    let shape = shape_of(kind(table, n));
     if shape.class == 0 {
         return false;
     }

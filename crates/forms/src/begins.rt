@@ -81,6 +81,7 @@ pub fn parse_start(s: &[u8], at: usize) -> ParseStart
     }
 }
 
+// A start for each letter, which the layout spreads over four lines.
 fn symbol_letter(c: u8) -> SymbolStart
     ensures { λ r. ⌜ ((rest : List ℕ) → r ≡ symbolStart (c ∷ rest)) ⌝ }
 {

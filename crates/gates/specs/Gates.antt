@@ -7,6 +7,7 @@ use lib.ListN.{length}
 use Rattle.scan.specs.Bytes.{pick}
 use Rattle.gates.specs.declared.Gate.{Gate}
 use Rattle.gates.specs.declared.Gate.the-variants.{Open, Call, Symbol, High}
+use Rattle.scan.specs.Limits.{longestSymbol, deepestReading}
 
 -- none of `count` bits of the flag word from bit `low` on
 abbrev pub lacks : ℕ → ℕ → ℕ → Bool
@@ -23,8 +24,8 @@ highAt (c ∷ s) = pick (leb 128 c) 0 (suc (highAt s))
 
 -- what refuses a call before anything is read: 1, 2
 unfoldable pub symbolGate : List ℕ → Gate
-symbolGate s = pick (eqb (length s) 0) Symbol (pick (leb (length s) 4096) (pick (ltb (highAt s) (length s)) (High (highAt s)) Open) Symbol)
+symbolGate s = pick (eqb (length s) 0) Symbol (pick (leb (length s) longestSymbol) (pick (ltb (highAt s) (length s)) (High (highAt s)) Open) Symbol)
 
 -- and 7 before these
 unfoldable pub gate : ℕ → ℕ → List ℕ → Gate
-gate f depth s = pick (leb depth 200) (pick (knownFlags f) (symbolGate s) Call) Call
+gate f depth s = pick (leb depth deepestReading) (pick (knownFlags f) (symbolGate s) Call) Call

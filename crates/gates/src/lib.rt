@@ -1,6 +1,8 @@
 // What refuses a call before anything is read.
 ghost use mathlib.Core.Path.{_≡_};
 ghost use Rattle.gates.specs.Gates.{knownFlags, highAt, symbolGate, gate};
+use scan::limits::DEEPEST_READING;
+use scan::limits::LONGEST_SYMBOL;
 
 pub enum Gate {
     Open,
@@ -9,27 +11,43 @@ pub enum Gate {
     High(usize),
 }
 
-const DEPTH_MOST: u32 = 200;
+const DEPTH_MOST: u32 = DEEPEST_READING as u32;
 
-const SYMBOL_MOST: usize = 4096;
+// Where the unknown bits of a flag word begin, and how many stand together.
+const BIT_3: u32 = 8;
+
+const BIT_8: u32 = 256;
+
+const BIT_13: u32 = 8_192;
+
+const BIT_25: u32 = 33_554_432;
+
+const ONE_BIT: u32 = 2;
+
+const TWO_BITS: u32 = 4;
+
+const SEVEN_BITS: u32 = 128;
+
+// Bytes from here on are not ASCII.
+const HIGH: u8 = 128;
 
 // Whether each bit of the flag word is known.
 fn are_known(flags: u32) -> bool
     ensures { λ r. ⌜ r ≡ knownFlags flags ⌝ }
 {
-    if flags % 2 != 0 {
+    if flags % ONE_BIT != 0 {
         return false;
     }
-    if flags / 8 % 4 != 0 {
+    if flags / BIT_3 % TWO_BITS != 0 {
         return false;
     }
-    if flags / 256 % 2 != 0 {
+    if flags / BIT_8 % ONE_BIT != 0 {
         return false;
     }
-    if flags / 8192 % 128 != 0 {
+    if flags / BIT_13 % SEVEN_BITS != 0 {
         return false;
     }
-    flags / 33554432 % 128 == 0
+    flags / BIT_25 % SEVEN_BITS == 0
 }
 
 // Where the first byte of 128 or more stands; the length where there is none.
@@ -38,7 +56,7 @@ fn high_at(symbol: &[u8]) -> usize
 {
     let mut i = 0;
     while i < symbol.len() {
-        if 128 <= symbol[i] {
+        if HIGH <= symbol[i] {
             break;
         }
         i += 1;
@@ -52,7 +70,7 @@ pub fn symbol_gate(symbol: &[u8]) -> Gate
     if symbol.len() == 0 {
         return Gate::Symbol;
     }
-    if SYMBOL_MOST < symbol.len() {
+    if LONGEST_SYMBOL < symbol.len() {
         return Gate::Symbol;
     }
     let high = high_at(symbol);

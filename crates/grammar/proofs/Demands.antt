@@ -6,7 +6,7 @@
 --     cramped    a room below the nodes reported, with depth enough, is refused by room
 -- Assumes nothing.
 use Prim.Native.Nat.{ℕ, zero, suc, _+_, _-_, _<_, _≤_, max}
-use mathlib.Core.Path.{_≡_, refl, sym, ap, subst, _∙_}
+use mathlib.Core.Path.{_≡_, refl, sym, ap, _∙_}
 use mathlib.Core.List.{List, [], _∷_, _++_, append-nil, append-assoc}
 use mathlib.Core.Bool.{Bool, true, false}
 use native.Mathlib.Omega.{arith}
@@ -18,6 +18,7 @@ use Rattle.grammar.specs.Counts.{Node, Limit, depth, room, Demand, Log, 
 use Rattle.grammar.specs.declared.State.{State}
 use Rattle.grammar.specs.declared.Refusal.{Refusal}
 use Rattle.grammar.specs.declared.Refusal.the-variants.{Syntax, Deep, Full}
+use Rattle.scan.specs.Limits.{deepestReading}
 
 pub true-false : {A : Type 0} → _≡_ {A = Bool} true false → A
 true-false e = let z : _≡_ {A = ℕ} 0 1 = cc in absurd (omega arith)
@@ -67,7 +68,7 @@ module _ {Tag : Type 0} {Ans : Tag → Type 0} (body : (tag : Tag) → Program T
   reads-grow : (d : ℕ) (tag : Tag) (st : State) (l : Log) → Grows l (readAsking body same s d tag st l)
   unfolding readAsking
   reads-grow zero tag st l = record { more = _; is = refl }
-  reads-grow (suc d) tag st l = grows-on _ _ _ refl (run-grows s (λ used l. same used (l .nodes)) (readAsking body same s d) (reads-grow d) (body tag) (opened (200 - d) st) (asking (200 - d) st l))
+  reads-grow (suc d) tag st l = grows-on _ _ _ refl (run-grows s (λ used l. same used (l .nodes)) (readAsking body same s d) (reads-grow d) (body tag) (opened (deepestReading - d) st) (asking (deepestReading - d) st l))
 
 -- a test that stands before others
 holds-then : {A : Type 0} (b c : Bool) (x y z : A) → pick b c false ≡ true → (c ≡ true → x ≡ z) → pick b x y ≡ z
@@ -169,31 +170,31 @@ module _ (deepest nodes : ℕ) where
   one-fits : (ds : List Demand) (d : Demand) (b : Bool) → fits deepest nodes ds ≡ true → leb (d .count) (budget deepest nodes (d .limit)) ≡ b → fits deepest nodes (ds ++ (d ∷ [])) ≡ pick b true false
   one-fits ds d b h e = fits-append ds (d ∷ []) h ∙ rw e
 
--- parts: where d more may open within the limit, d′ more may open within 200
-module _ {Tag : Type 0} {Ans : Tag → Type 0} (body : (tag : Tag) → Program Tag Ans (Ans tag)) (same : Same (List Node)) (s : List ℕ) (limit nodes : ℕ) (low : limit ≤ 200) where
+-- parts: where d more may open within the limit, d′ more may open within the deepest
+module _ {Tag : Type 0} {Ans : Tag → Type 0} (body : (tag : Tag) → Program Tag Ans (Ans tag)) (same : Same (List Node)) (s : List ℕ) (limit nodes : ℕ) (low : limit ≤ deepestReading) where
   reads-settle :
-      (d d′ : ℕ) → limit + d′ ≡ 200 + d → (tag : Tag) (st : State) (l : Log) → fits limit nodes (l .asked) ≡ true →
+      (d d′ : ℕ) → limit + d′ ≡ deepestReading + d → (tag : Tag) (st : State) (l : Log) → fits limit nodes (l .asked) ≡ true →
       readNodes body same s limit nodes d tag st (l .nodes) ≡ settle limit nodes (readAsking body same s d′ tag st l)
   unfolding readNodes readAsking
   reads-settle zero zero e tag st l h = sym (one-over limit nodes (l .asked) _ _ h (leb-not 201 limit (omega arith)))
   reads-settle zero (suc d′) e tag st l h =
-      let l₁ : Log = asking (200 - d′) st l in
-      let z = run s (λ used l. same used (l .nodes)) shutAsking (readAsking body same s d′) (body tag) (opened (200 - d′) st) l₁ in
-      let g = run-grows s (λ used l. same used (l .nodes)) (readAsking body same s d′) (reads-grow body same s d′) (body tag) (opened (200 - d′) st) l₁ in
-      let over : leb (200 - d′) limit ≡ false = leb-not (200 - d′) limit (omega arith) in
+      let l₁ : Log = asking (deepestReading - d′) st l in
+      let z = run s (λ used l. same used (l .nodes)) shutAsking (readAsking body same s d′) (body tag) (opened (deepestReading - d′) st) l₁ in
+      let g = run-grows s (λ used l. same used (l .nodes)) (readAsking body same s d′) (reads-grow body same s d′) (body tag) (opened (deepestReading - d′) st) l₁ in
+      let over : leb (deepestReading - d′) limit ≡ false = leb-not (deepestReading - d′) limit (omega arith) in
       sym (one-over limit nodes (l .asked) _ (bare z) h over) ∙ settled-over limit nodes (l₁ .asked) (g .more) (bare z) (bare z) (one-fits limit nodes (l .asked) _ false h over)
       ∙ ap (λ (ds : List Demand). settled limit nodes ds (bare z)) (sym (g .is))
   reads-settle (suc d) zero e tag st l h = absurd (omega arith)
   reads-settle (suc d) (suc d′) e tag st l h =
-      let o : limit - d ≡ 200 - d′ = omega arith in
-      let fit : leb (200 - d′) limit ≡ true = le-leb (200 - d′) limit (omega arith) in
+      let o : limit - d ≡ deepestReading - d′ = omega arith in
+      let fit : leb (deepestReading - d′) limit ≡ true = le-leb (deepestReading - d′) limit (omega arith) in
       rw o
-      (run-settles limit nodes s same (readNodes body same s limit nodes d) (readAsking body same s d′) (reads-grow body same s d′) (λ tag st l. reads-settle d d′ (omega arith) tag st l) (body tag) (opened (200 - d′) st) (asking (200 - d′) st l)
+      (run-settles limit nodes s same (readNodes body same s limit nodes d) (readAsking body same s d′) (reads-grow body same s d′) (λ tag st l. reads-settle d d′ (omega arith) tag st l) (body tag) (opened (deepestReading - d′) st) (asking (deepestReading - d′) st l)
       (one-fits limit nodes (l .asked) _ true h fit))
 
   -- the theorem: a whole reading within budgets is what its demands settle
   pub settles : (tag : Tag) (st : State) → readNodes body same s limit nodes limit tag st [] ≡ settle limit nodes (asks body same s tag st)
-  settles tag st = reads-settle limit 200 (omega arith) tag st (record { nodes = []; asked = [] }) refl
+  settles tag st = reads-settle limit deepestReading (omega arith) tag st (record { nodes = []; asked = [] }) refl
 
 -- the counts of a state are the largest that were asked
 pub record Counted (st : State) (l : Log) : Type 0 where
@@ -248,7 +249,7 @@ module _ {Tag : Type 0} {Ans : Tag → Type 0} (body : (tag : Tag) → Program T
   reads-counted : (d : ℕ) (tag : Tag) (st : State) (l : Log) → Counted st l → Counted (readAsking body same s d tag st l .state) (readAsking body same s d tag st l .cells)
   unfolding readAsking
   reads-counted zero tag st l c = counted-asking 201 c refl refl
-  reads-counted (suc d) tag st l c = run-counted s (λ used l. same used (l .nodes)) (readAsking body same s d) (reads-counted d) (body tag) (opened (200 - d) st) (asking (200 - d) st l) (counted-asking (200 - d) c refl refl)
+  reads-counted (suc d) tag st l c = run-counted s (λ used l. same used (l .nodes)) (readAsking body same s d) (reads-counted d) (body tag) (opened (deepestReading - d) st) (asking (deepestReading - d) st l) (counted-asking (deepestReading - d) c refl refl)
 
 -- demands fit where the largest of each limit does; where only those of one limit do not, it refuses by its name
 abbrev other : Limit → Limit
@@ -324,16 +325,16 @@ module _ {Tag : Type 0} {Ans : Tag → Type 0} (body : (tag : Tag) → Program T
   whole limit nodes = readNodes body same s limit nodes limit tag st []
 
   pub reports : Counted (own .state) (own .cells)
-  reports = reads-counted body same s 200 tag st (record { nodes = []; asked = [] }) (record { deep = no-deep; used = no-used })
+  reports = reads-counted body same s deepestReading tag st (record { nodes = []; asked = [] }) (record { deep = no-deep; used = no-used })
 
   -- budgets that hold the counts leave the reading as it is
-  pub suffices : (limit nodes : ℕ) → limit ≤ 200 → own .state .deep ≤ limit → own .state .used ≤ nodes → whole limit nodes ≡ bare own
+  pub suffices : (limit nodes : ℕ) → limit ≤ deepestReading → own .state .deep ≤ limit → own .state .used ≤ nodes → whole limit nodes ≡ bare own
   suffices limit nodes low p q =
       settles body same s limit nodes low tag st
       ∙ settled-fits limit nodes (own .cells .asked) _ (low-fits limit nodes (own .cells .asked) (rw (reports .deep) at p) (rw (reports .used) at q))
 
   -- a budget below its count refuses by its name, where the other holds
-  below : (l : Limit) (limit nodes : ℕ) → limit ≤ 200 → budget limit nodes l < most l (own .cells .asked) → most (other l) (own .cells .asked) ≤ budget limit nodes (other l) → whole limit nodes .reply ≡ refused (name l)
+  below : (l : Limit) (limit nodes : ℕ) → limit ≤ deepestReading → budget limit nodes l < most l (own .cells .asked) → most (other l) (own .cells .asked) ≤ budget limit nodes (other l) → whole limit nodes .reply ≡ refused (name l)
   below l limit nodes low p q =
       ap (λ (o : Out (Ans tag) (List Node)). o .reply) (settles body same s limit nodes low tag st)
       ∙ named limit nodes l (own .cells .asked) _ q (not-true _ (λ e. over l (fits-low limit nodes (own .cells .asked) e) p))
@@ -342,27 +343,16 @@ module _ {Tag : Type 0} {Ans : Tag → Type 0} (body : (tag : Tag) → Program T
       over depth r p = omega (arith, r .0)
       over room r p = omega (arith, r .1)
 
-  pub shallow : (limit nodes : ℕ) → limit ≤ 200 → limit < own .state .deep → own .state .used ≤ nodes → whole limit nodes .reply ≡ refused Deep
+  pub shallow : (limit nodes : ℕ) → limit ≤ deepestReading → limit < own .state .deep → own .state .used ≤ nodes → whole limit nodes .reply ≡ refused Deep
   shallow limit nodes low p q = below depth limit nodes low (rw (reports .deep) at p) (rw (reports .used) at q)
 
-  pub cramped : (limit nodes : ℕ) → limit ≤ 200 → own .state .deep ≤ limit → nodes < own .state .used → whole limit nodes .reply ≡ refused Full
+  pub cramped : (limit nodes : ℕ) → limit ≤ deepestReading → own .state .deep ≤ limit → nodes < own .state .used → whole limit nodes .reply ≡ refused Full
   cramped limit nodes low p q = below room limit nodes low (rw (reports .used) at q) (rw (reports .deep) at p)
 
   -- a call that is not refused for depth or room is the reading itself, and its counts are within its budgets
-  pub stands : (limit nodes : ℕ) → limit ≤ 200 → passed (whole limit nodes .reply) ≡ false → (own .state .deep ≤ limit) × (own .state .used ≤ nodes)
+  pub stands : (limit nodes : ℕ) → limit ≤ deepestReading → passed (whole limit nodes .reply) ≡ false → (own .state .deep ≤ limit) × (own .state .used ≤ nodes)
   stands limit nodes low h = go (fits limit nodes (own .cells .asked)) refl
     where
       go : (b : Bool) → fits limit nodes (own .cells .asked) ≡ b → (own .state .deep ≤ limit) × (own .state .used ≤ nodes)
       go true e = rw (reports .deep, reports .used) (fits-low limit nodes (own .cells .asked) e)
       go false e = true-false (sym (ap (λ (o : Out (Ans tag) (List Node)). passed (o .reply)) (settles body same s limit nodes low tag st) ∙ over-passes limit nodes (own .cells .asked) _ e) ∙ h)
-
-  -- the counts that such a call reports suffice exactly: budgets that hold them give the same, one below them is refused by its name
-  pub record Exact (o : Out (Ans tag) (List Node)) : Type 0 where
-    pub enough : (limit nodes : ℕ) → limit ≤ 200 → o .state .deep ≤ limit → o .state .used ≤ nodes → whole limit nodes ≡ o
-    pub deep : (limit nodes : ℕ) → limit ≤ 200 → limit < o .state .deep → o .state .used ≤ nodes → whole limit nodes .reply ≡ refused Deep
-    pub full : (limit nodes : ℕ) → limit ≤ 200 → o .state .deep ≤ limit → nodes < o .state .used → whole limit nodes .reply ≡ refused Full
-
-  pub exact : (limit nodes : ℕ) → limit ≤ 200 → passed (whole limit nodes .reply) ≡ false → Exact (whole limit nodes)
-  exact limit nodes low h =
-      let c = stands limit nodes low h in
-      subst Exact (sym (suffices limit nodes low (c .0) (c .1))) (record { enough = suffices; deep = shallow; full = cramped })

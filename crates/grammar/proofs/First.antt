@@ -1,7 +1,7 @@
 -- The first demand that passes its limit decides a reading within budgets, for every grammar.
 --     settled-first    where a demand is the first to pass, the reading is refused by its name, in its state
 --     first-over       where some demand passes, there is a first
---     stopped          a reading within no budget is refused for depth only past 200 open parts
+--     stopped          a reading within no budget is refused for depth only past the deepest reading
 -- Assumes nothing.
 use Prim.Native.Nat.{ℕ, zero, suc, _-_, _<_}
 use mathlib.Core.Bool.{Bool, true, false}
@@ -15,6 +15,7 @@ use Rattle.grammar.specs.Program.{Program, ret, fail, look, when, skip, 
 use Rattle.grammar.specs.Counts.{Node, Demand, Log, budget, name, settled, fits, First, opened, asking, shutAsking, readAsking, asks}
 use Rattle.grammar.specs.declared.State.{State}
 use Rattle.grammar.proofs.Demands.{true-false, settled-append, passed}
+use Rattle.scan.specs.Limits.{deepestReading}
 
 module _ (deepest most : ℕ) where
   pub settled-first : {A : Type 0} {ds : List Demand} {d : Demand} (o : Out A (List Node)) → First deepest most ds d → settled deepest most ds o ≡ out (refused (name (d .limit))) (d .state) (d .nodes)
@@ -34,9 +35,9 @@ module _ (deepest most : ℕ) where
   first-over [] e = true-false e
   first-over (d ∷ ds) e = first-step d (leb (d .count) (budget deepest most (d .limit))) refl e (first-over ds)
 
--- within no budget a reading is refused for depth or room only past 200 open parts
+-- within no budget a reading is refused for depth or room only past the deepest reading
 abbrev Stops : {A : Type 0} → Reply A → State → Type 0
-Stops r st = passed r ≡ true → 200 < st .deep
+Stops r st = passed r ≡ true → deepestReading < st .deep
 
 then-stops : {A B : Type 0} (r : Reply A) (o : Out A Log) (f : A → State → Log → Out B Log) → Stops r (o .state) → ((a : A) (st : State) (l : Log) → Stops (f a st l .reply) (f a st l .state)) → Stops (onward r (o .state) (o .cells) f .reply) (onward r (o .state) (o .cells) f .state)
 then-stops (found a) o f c k = k a (o .state) (o .cells)
@@ -65,7 +66,7 @@ module _ {Tag : Type 0} {Ans : Tag → Type 0} (body : (tag : Tag) → Program T
   reads-stop : (d : ℕ) (tag : Tag) (st : State) (l : Log) → Stops (readAsking body same s d tag st l .reply) (readAsking body same s d tag st l .state)
   unfolding readAsking
   reads-stop zero tag st l = λ e. omega arith
-  reads-stop (suc d) tag st l = run-stops s (λ used l. same used (l .nodes)) (readAsking body same s d) (reads-stop d) (body tag) (opened (200 - d) st) (asking (200 - d) st l)
+  reads-stop (suc d) tag st l = run-stops s (λ used l. same used (l .nodes)) (readAsking body same s d) (reads-stop d) (body tag) (opened (deepestReading - d) st) (asking (deepestReading - d) st l)
 
-  pub stopped : (tag : Tag) (st : State) → passed (asks body same s tag st .reply) ≡ true → 200 < asks body same s tag st .state .deep
-  stopped tag st = reads-stop 200 tag st (record { nodes = []; asked = [] })
+  pub stopped : (tag : Tag) (st : State) → passed (asks body same s tag st .reply) ≡ true → deepestReading < asks body same s tag st .state .deep
+  stopped tag st = reads-stop deepestReading tag st (record { nodes = []; asked = [] })

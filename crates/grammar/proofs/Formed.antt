@@ -42,7 +42,7 @@ use Rattle.node.specs.Cells.{nodes, cellOf, heightAt}
 use Rattle.form.specs.Form.{wellFormed}
 use Rattle.grammar.specs.Program.{ret, part, Reply, found, Out, out, Same}
 use Rattle.grammar.specs.Words.{_⇒_∥_, expect, leaf, class, nameOf}
-use Rattle.node.specs.Kind.{Kind, NamePlace, TypePlace, Ptr, Ref, RValueRef, Struct, Union, Class, Enum, Basic, kindNumber}
+use Rattle.node.specs.Kind.{Kind, NamePlace, TypePlace, Ptr, Ref, RValueRef, Struct, Union, Class, Enum, Basic, kindNumber, ParseResult}
 use Rattle.grammar.specs.Grammar.{Tag, Parse, OuterMd5, OuterTemplate, OuterGuard, MdFive, OuterName, SymbolType, NoType, GuardType, Name, Unqualified, Nested, VarType, Func, Dimension, Variadic, NoParams, NoReturn, Ans, Reading, close, emptyMemo, place, name′, stored, unqualifiedName, nestedName, referenceOr, varType, scopeFrom, scope, listEnd, storedParam, newParam, paramsFrom, params, funcParams, templateName, plainName, rttiTypeDescriptor, rttiBaseClassDescriptor, specialName, unqualifiedBody, nestedOf, nestedBody, nameBody, pointee, element, nestedArray, dimensions, array, funcReturnType, funcType, memberClasses, memberFunctionPointer, named, pointing, letterType, noLetter, plainType, formType, varTypeBody, charsIs, encodedString, memberFunction, symbolTypeOf, symbolTypeBody, indexAndOne, guardIndex, parsed, parseOf, body}
 use Rattle.grammar.specs.Counts.{Node, heightOf, rises, readNodes}
 use Rattle.grammar.specs.Table.{cellsOf, sameNodes, readTable}
@@ -53,6 +53,7 @@ use Rattle.grammar.proofs.Bounds.{number-below, unsigned-below, guard-n
 use Rattle.grammar.proofs.Rows.{kindAt, Known, known-none, rowOf, wider, empty, ref, cell-kind, height-cells, well-formed}
 use Rattle.grammar.proofs.Calm.{Calm, is, refuses, either, seen, if, next, valued, leaves, spanned, classed, counted}
 use Rattle.grammar.proofs.Sound.{World, world, Stored, Good, Post, Ended, Ends, Setting, Sound, since, still, NodeIs, LastIs, ListIs, ends, fails, looks, chooses, then, through, opens, skips, inside, says, widens, reads, heres, remembers, replaces, on, digits, orders, shuts-last, shuts-by, shuts, name-refs, name-refs-here, no-names, type-refs, stores, stores-if, stores-unless, reads-sound}
+use Rattle.scan.specs.Limits.{Short}
 
 -- classes that stand together: a name of a scope, a type, a list of names or of types, and a return, which may be none
 abbrev inScope : ℕ
@@ -576,7 +577,7 @@ pub record Whole (s : List ℕ) (n : ℕ) (st : State) (ns : List Node) : Type 0
   pub formed : wellFormed (cellsOf ns) (length s) (length ns) ≡ true
   pub held : (tail : List ℕ) → wellFormed (cellsOf ns ++ tail) (length s) (length ns) ≡ true
   pub last : n + 1 ≡ length ns
-  pub root : kindAt ns n ≡ 3
+  pub root : kindAt ns n ≡ kindNumber ParseResult
   pub used : st .used ≡ length ns
   pub deep : st .deep ≡ heightOf ns (n + 1)
 
@@ -594,7 +595,7 @@ whole s w n w′ d e = record {
 pub record Left (s : List ℕ) (n : ℕ) (st : State) (t : List ℕ) : Type 0 where
   pub formed : wellFormed t (length s) (st .used) ≡ true
   pub last : n + 1 ≡ st .used
-  pub root : cellOf t n 0 ≡ 3
+  pub root : cellOf t n 0 ≡ kindNumber ParseResult
   pub deep : st .deep ≡ heightAt t (n + 1)
 
 left : {s t₀ : List ℕ} {n : ℕ} {st : State} {ns : List Node} (t : List ℕ) → Whole s n st ns → Holds t₀ (st .used) ns t → Left s n st t
@@ -608,7 +609,7 @@ left {s} {t₀} {n} {st} {ns} t w h =
     }
 
 -- the theorem, for every limit and room
-module _ (s : List ℕ) (short : length s ≤ 4096) (limit room : ℕ) (start : State)
+module _ (s : List ℕ) (short : Short s) (limit room : ℕ) (start : State)
     (no-at : start .at ≡ 0) (no-used : start .used ≡ 0) (no-deep : start .deep ≡ 0) (no-memo : start .memo ≡ emptyMemo) where
   -- over a list of nodes, and whatever is taken for equal nodes
   pub grammar-formed : (same : Same (List Node)) {n : ℕ} {st : State} {ns : List Node} → readNodes body same s limit room limit Parse start [] ≡ out (found n) st ns → Whole s n st ns

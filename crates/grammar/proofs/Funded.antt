@@ -13,9 +13,8 @@ use lib.ListN.{length, drop, length-drop}
 use lib.Dec.{leb}
 use borrow.Author.Tests.{leb-true, leb-false, le-leb}
 use Rattle.scan.specs.Bytes.{pick, bytes, isDigit}
-use Rattle.scan.specs.Cursor.{getByte}
 use Rattle.grammar.specs.Program.{Store, Program, ret, fail, look, when, skip, recall, keep, store, part, sub, node, Reply, found, refused, Out, onward, Part, Shut, Same, run}
-use Rattle.grammar.specs.Words.{byteAt, among, _⇒_∥_, oneOf, leafIs, leaf, spanIs, span, class, count, byteIs, get, ordered, digit, number, unsigned, string, hexDigits}
+use Rattle.grammar.specs.Words.{byteAt, _⇒_∥_, leafIs, leaf, spanIs, span, class, count, ordered, digit, number, unsigned, string, hexDigits}
 use Rattle.grammar.specs.Counts.{Node, Limit, depth, room, Demand, Log, shutAsking, asking, opened, readAsking, readNodes, asks, budget, settled, same-limit, most}
 use Rattle.grammar.proofs.Demands.{leb-not, reports, settles}
 use Rattle.grammar.proofs.Leaves.{Least, SpanLeast, least-none, atLeast, at-least, number-least, unsigned-fits, unsigned-least, string-fits, string-least, hex-fits}
@@ -31,6 +30,7 @@ use Rattle.letters.specs.declared.Class.{Class}
 use Rattle.letters.proofs.Spelled.{starts-fits}
 use Rattle.grammar.specs.declared.State.{State}
 use Rattle.grammar.specs.declared.Memo.{Memo}
+use Rattle.scan.specs.Limits.{deepestReading}
 
 leb-min : (c a b : ℕ) → c ≤ a → leb c (min a b) ≡ leb c b
 leb-min c a b p = go (leb c b) refl
@@ -137,12 +137,12 @@ module _ {Tag : Type 0} {Ans : Tag → Type 0} (body : (tag : Tag) → Program T
   unfolding readAsking
   reads-pay zero tag e st l i b = record { inside = i; paid = omega arith }
   reads-pay (suc d) tag e st l i b =
-      run-pays s promise (λ used l. same used (l .nodes)) shutAsking (readAsking body same s d) asking-closes (reads-pay d) (body tag) e (promise tag .need) (promise tag .gives) (opened (200 - d) st) (asking (200 - d) st l) i b (funded tag .by (st .at) i)
+      run-pays s promise (λ used l. same used (l .nodes)) shutAsking (readAsking body same s d) asking-closes (reads-pay d) (body tag) e (promise tag .need) (promise tag .gives) (opened (deepestReading - d) st) (asking (deepestReading - d) st l) i b (funded tag .by (st .at) i)
 
   pub pays : (tag : Tag) (st : State) → st .at ≡ 0 → st .used ≡ 0 → promise tag .need ≡ 0 → Pays s (promise tag .gives) (asks body same s tag st)
   pays tag st a u n =
       let e : 0 + promise tag .gives ≡ promise tag .gives = omega arith in
-      rw e at (reads-pay 200 tag 0 st (record { nodes = []; asked = [] }) (omega arith) (omega arith))
+      rw e at (reads-pay deepestReading tag 0 st (record { nodes = []; asked = [] }) (omega arith) (omega arith))
 
   -- so a cap on the nodes that is no less than twice the symbol's length changes nothing, whatever room is lent
   module _ (tag : Tag) (st : State) (no-at : st .at ≡ 0) (no-deep : st .deep ≡ 0) (no-used : st .used ≡ 0) (no-need : promise tag .need ≡ 0) where
@@ -152,7 +152,7 @@ module _ {Tag : Type 0} {Ans : Tag → Type 0} (body : (tag : Tag) → Program T
         let p = pays tag st no-at no-used no-need in
         omega (arith, c .used, p .paid, p .inside)
 
-    pub capped : (limit nodes cap : ℕ) → limit ≤ 200 → 2 * length s ≤ cap → readNodes body same s limit (min cap nodes) limit tag st [] ≡ readNodes body same s limit nodes limit tag st []
+    pub capped : (limit nodes cap : ℕ) → limit ≤ deepestReading → 2 * length s ≤ cap → readNodes body same s limit (min cap nodes) limit tag st [] ≡ readNodes body same s limit nodes limit tag st []
     capped limit nodes cap low c =
         settles body same s limit (min cap nodes) low tag st ∙ settled-capped limit nodes cap (asks body same s tag st .cells .asked) _ (omega (arith, few)) ∙ sym (settles body same s limit nodes low tag st)
 
@@ -164,11 +164,6 @@ pub digit-inside : (s : List ℕ) (at : ℕ) → isDigit (byteAt s at) ≡ true 
 digit-inside [] at e = true-false (sym e)
 digit-inside (x ∷ s) zero e = omega arith
 digit-inside (x ∷ s) (suc at) e = let h : at < length s = digit-inside s at e in omega arith
-
-among-inside : (cs s : List ℕ) (at : ℕ) → among cs 256 ≡ false → among cs (byteAt s at) ≡ true → at < length s
-among-inside cs [] at h e = true-false (sym e ∙ h)
-among-inside cs (x ∷ s) zero h e = omega arith
-among-inside cs (x ∷ s) (suc at) h e = let l : at < length s = among-inside cs s at h e in omega arith
 
 -- more credit beforehand, or less afterwards, will do as well
 module _ {Tag : Type 0} {Ans : Tag → Type 0} (s : List ℕ) (promise : Tag → Promise) where
@@ -189,11 +184,6 @@ module _ {Tag : Type 0} {Ans : Tag → Type 0} (s : List ℕ) (promise : Tag →
       let n : 1 ≤ c = f .0 in
       (omega arith, (λ x at′ i. funded-more (k x) at′ (c - 1) (c′ - 1) g g′ (omega arith) m (f .1 x at′ i)))
 
--- of each entry of a table, by its length
-abbrev pub Each : {X : Type 0} → (ℕ → X → Type 0) → List (String × X) → Type 0
-Each P [] = Unit {0}
-Each P ((t, x) ∷ ts) = P (length (bytes t)) x × Each P ts
-
 -- a leaf, by what it reads where so many bytes are left
 module _ {Tag : Type 0} (Ans : Tag → Type 0) (s : List ℕ) (promise : Tag → Promise) (c g : ℕ) where
   leaf-funded : (lo : ℕ) (x : Leaf) (at left : ℕ) → at + left ≤ length s → Fits left x → Least lo x → g ≤ c + 2 * lo → Funded {Ans = Ans} s promise at c g (leafIs x)
@@ -203,11 +193,6 @@ module _ {Tag : Type 0} (Ans : Tag → Type 0) (s : List ℕ) (promise : Tag →
   span-funded : (lo : ℕ) (x : Span) (at left : ℕ) → at + left ≤ length s → SpanFits left x → SpanLeast lo x → g ≤ c + 2 * lo → Funded {Ans = Ans} s promise at c g (spanIs x)
   span-funded lo (spans.Takes n) at left i h m l = omega arith
   span-funded lo (spans.Bad n) at left i h m l = (omega arith, tt)
-
-  byte-funded : (at : ℕ) (r : List ℕ) → at + length r ≤ length s → g ≤ c + 2 → Funded {Ans = Ans} s promise at c g (byteIs (getByte r))
-  unfolding getByte
-  byte-funded at [] i l = tt
-  byte-funded at (x ∷ r) i l = omega arith
 
 -- one rule for each word
 module _ {Tag : Type 0} {Ans : Tag → Type 0} {s : List ℕ} {promise : Tag → Promise} where
@@ -235,9 +220,6 @@ module _ {Tag : Type 0} {Ans : Tag → Type 0} {s : List ℕ} {promise : Tag →
   pub on : {A : Type 0} {c g : ℕ} (b : String) {p q : Program Tag Ans A} → Fund s promise (c + 2 * length (bytes b)) g p → Fund s promise c g q → Fund s promise c g (b ⇒ p ∥ q)
   on b f h = record { by = λ at i. ((λ e. let l : length (bytes b) ≤ length s - at = rw (← length-drop at s) (starts-fits (bytes b) (drop at s) e) in let j : at + length (bytes b) ≤ length s = omega arith in (j, f .by _ j)), (λ e. h .by at i)) }
 
-  pub ones : {A : Type 0} {c g : ℕ} (b : String) {p q : Program Tag Ans A} → among (bytes b) 256 ≡ false → Fund s promise (c + 2) g p → Fund s promise c g q → Fund s promise c g (oneOf b p q)
-  ones b n f h = record { by = λ at i. ((λ e. let l : at < length s = among-inside (bytes b) s at n e in let j : at + 1 ≤ length s = omega arith in (j, f .by _ j)), (λ e. h .by at i)) }
-
   pub more : {A : Type 0} {c′ g′ : ℕ} {p : Program Tag Ans A} (c g : ℕ) → c ≤ c′ → g′ ≤ g → Fund s promise c g p → Fund s promise c′ g′ p
   more {p = p} c g l m f = record { by = λ at i. funded-more s promise p at c _ g _ l m (f .by at i) }
 
@@ -257,9 +239,6 @@ module _ {Tag : Type 0} {Ans : Tag → Type 0} {s : List ℕ} {promise : Tag →
   pub counts : {c g : ℕ} (f : List ℕ → ℕ) → ((r : List ℕ) → f r ≤ length r) → g ≤ c → Fund {Ans = Ans} s promise c g (count f)
   counts f t l = record { by = λ at i. let h : f (drop at s) ≤ length (drop at s) = t (drop at s) in (omega (arith, length-drop at s), omega arith) }
 
-  pub gets : {c g : ℕ} → g ≤ c + 2 → Fund {Ans = Ans} s promise c g get
-  gets l = record { by = λ at i. byte-funded Ans s promise _ _ at (drop at s) (omega (arith, length-drop at s)) l }
-
   -- the leaves that have words of their own
   pub numbers : {c g : ℕ} → g ≤ c + 2 → Fund {Ans = Ans} s promise c g number
   numbers l = taken readNumber 1 number-fits number-least l
@@ -273,11 +252,7 @@ module _ {Tag : Type 0} {Ans : Tag → Type 0} {s : List ℕ} {promise : Tag →
   pub hexes : {c g : ℕ} → g ≤ c → Fund {Ans = Ans} s promise c g hexDigits
   hexes l = counts readHexDigits hex-fits l
 
-  -- ordered choice: each entry has the credit of its own bytes; or all have that of the fewest
-  pub orders : {X A : Type 0} {c g : ℕ} (table : List (String × X)) (k : X → Program Tag Ans A) {p : Program Tag Ans A} → Each (λ n x. Fund s promise (c + 2 * n) g (k x)) table → Fund s promise c g p → Fund s promise c g (ordered table k p)
-  orders [] k e h = h
-  orders ((t, x) ∷ ts) k e h = on t (e .0) (orders ts k (e .1) h)
-
+  -- ordered choice: each entry has the credit of the fewest bytes
   pub orders-all : {X A : Type 0} {c g : ℕ} (lo : ℕ) (table : List (String × X)) (k : X → Program Tag Ans A) {p : Program Tag Ans A} → atLeast lo table ≡ true → ((x : X) → Fund s promise (c + 2 * lo) g (k x)) → Fund s promise c g p → Fund s promise c g (ordered table k p)
   orders-all lo [] k e f h = h
   orders-all {c = c} {g = g} lo ((t, x) ∷ ts) k e f h = let l = at-least lo t x ts e in on t (more (c + 2 * lo) g (omega (arith, l .0)) (omega arith) (f x)) (orders-all lo ts k (l .1) f h)

@@ -12,6 +12,7 @@ use Rattle.scan.specs.Bytes.{pick}
 use Rattle.grammar.specs.Program.{Program, ret, fail, look, when, skip, recall, keep, store, part, sub, node, Reply, found, refused, Out, onward, Part, Shut, Same, run}
 use Rattle.grammar.specs.Counts.{Node, made, Demand, Log, opened, asking, shutAsking, readAsking}
 use Rattle.grammar.specs.declared.State.{State}
+use Rattle.scan.specs.Limits.{deepestReading}
 
 then-keeps :
     {A B T : Type 0} (I : ℕ → T → Type 0) (r : Reply A) (st : State) (t : T) (f : A → State → T → Out B T) → I (st .used) t → ((a : A) (st : State) (t : T) → I (st .used) t → I (f a st t .state .used) (f a st t .cells)) →
@@ -72,4 +73,4 @@ module _ {Tag : Type 0} {Ans : Tag → Type 0} (body : (tag : Tag) → Program T
   pub reads-honest : (d : ℕ) (tag : Tag) (st : State) (l : Log) → HonestLog (st .used) l → HonestLog (readAsking body same s d tag st l .state .used) (readAsking body same s d tag st l .cells)
   unfolding readAsking
   reads-honest zero tag st l h = asks-honest 201 st l h
-  reads-honest (suc d) tag st l h = run-keeps HonestLog s (λ used l. same used (l .nodes)) shutAsking (readAsking body same s d) shuts-honest (reads-honest d) (body tag) (opened (200 - d) st) (asking (200 - d) st l) (asks-honest (200 - d) st l h)
+  reads-honest (suc d) tag st l h = run-keeps HonestLog s (λ used l. same used (l .nodes)) shutAsking (readAsking body same s d) shuts-honest (reads-honest d) (body tag) (opened (deepestReading - d) st) (asking (deepestReading - d) st l) (asks-honest (deepestReading - d) st l h)

@@ -52,10 +52,6 @@ pub least-none : (x : Leaf) → Least 0 x
 least-none (Value v n) = omega arith
 least-none (Bad n) = tt
 
-pub span-least-none : (x : Span) → SpanLeast 0 x
-span-least-none (spans.Takes n) = omega arith
-span-least-none (spans.Bad n) = tt
-
 pub pick-least : (lo : ℕ) (b : Bool) (x y : Leaf) → Least lo x → Least lo y → Least lo (pick b x y)
 pick-least lo true x y f g = f
 pick-least lo false x y f g = g

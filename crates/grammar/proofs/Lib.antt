@@ -1,5 +1,4 @@
--- The rules and the theorems on all programs of the language; what this grammar pays, and that what it leaves is well formed.
-pub mod Laws
+-- The theorems on all programs of the language; what this grammar pays, and that what it leaves is well formed.
 pub mod Ordered
 pub mod Demands
 pub mod First

@@ -1,9 +1,8 @@
 -- How far a program has come where it answers, by the credit that its bytes earned (Funded.antt): what is left of it was paid for by bytes, however many nodes were counted.
 --     run-moves    of every program that is funded
---     takes        so a part that needs no credit and gives some, where it answers, has taken a byte, and stands within the symbol
 -- Assumes nothing.
-use Prim.Native.Nat.{ℕ, zero, suc, _+_, _-_, _*_, _<_, _≤_}
-use mathlib.Core.Path.{_≡_, refl, subst}
+use Prim.Native.Nat.{ℕ, zero, suc, _+_, _-_, _*_, _≤_}
+use mathlib.Core.Path.{_≡_, refl}
 use mathlib.Core.List.{List}
 use mathlib.Core.Bool.{Bool, true, false}
 use native.Mathlib.Omega.{arith}
@@ -17,6 +16,7 @@ use Rattle.grammar.specs.declared.State.{State}
 use Rattle.grammar.proofs.Funded.{Promise, Funded, Fund, digit-inside}
 use Rattle.grammar.proofs.Calm.{IfFound}
 use Rattle.grammar.proofs.Memos.{Steady, nodes-steady, table-steady, asking-steady}
+use Rattle.scan.specs.Limits.{deepestReading}
 
 -- an answer stands within the symbol, and no nearer to its start than half of `least` bytes
 abbrev pub Stands : List ℕ → ℕ → State → Type 0
@@ -96,15 +96,6 @@ module _ {Tag T : Type 0} {Ans : Tag → Type 0} {s : List ℕ} {same : Same T} 
 abbrev pub Moving : {Tag T : Type 0} {Ans : Tag → Type 0} → List ℕ → (Tag → Promise) → Part Tag Ans T → Type 0
 Moving {Tag} {T} s promise rec = (tag : Tag) (z : ℕ) (st : State) (t : T) → st .at ≤ length s → z + promise tag .need ≤ 2 * st .at → Reaches s (z + promise tag .gives) (rec tag st t)
 
--- so where a part needs nothing and gives something, its answer has taken a byte
-pub takes :
-    {Tag T : Type 0} {Ans : Tag → Type 0} (s : List ℕ) (promise : Tag → Promise) (rec : Part Tag Ans T) → Moving s promise rec → (tag : Tag) → promise tag .need ≡ 0 → 1 ≤ promise tag .gives →
-    (st : State) (t : T) (a : Ans tag) → st .at ≤ length s → rec tag st t .reply ≡ found a → (st .at < rec tag st t .state .at) × (rec tag st t .state .at ≤ length s)
-takes {Ans = Ans} s promise rec moving tag n g st t a i e =
-    let h : Stands s (2 * st .at + promise tag .gives) (rec tag st t .state) =
-    subst (λ (r : Reply (Ans tag)). IfFound r (λ a. Stands s (2 * st .at + promise tag .gives) (rec tag st t .state))) e (moving tag (2 * st .at) st t i (omega arith) .end) in
-    omega (arith, h .0, h .1)
-
 module _ {Tag T : Type 0} {Ans : Tag → Type 0} (s : List ℕ) (promise : Tag → Promise) (same : Same T) (shut : Shut T) (rec : Part Tag Ans T) (steady : Steady shut) (moving : Moving s promise rec) where
   pub run-moves : {A : Type 0} (p : Program Tag Ans A) (z c g : ℕ) (st : State) (t : T) → st .at ≤ length s → z + c ≤ 2 * st .at → Funded s promise (st .at) c g p → Reaches s (z + g) (run s same shut rec p st t)
   unfolding run
@@ -147,7 +138,7 @@ module _ {Tag : Type 0} {Ans : Tag → Type 0} (body : (tag : Tag) → Program T
   unfolding readAsking
   asking-moves same zero tag z st l i b = record { end = tt }
   asking-moves same (suc d) tag z st l i b =
-      run-moves s promise (λ used l. same used (l .nodes)) shutAsking (readAsking body same s d) asking-steady (asking-moves same d) (body tag) z _ _ (opened (200 - d) st) (asking (200 - d) st l) i b (funded tag .by (st .at) i)
+      run-moves s promise (λ used l. same used (l .nodes)) shutAsking (readAsking body same s d) asking-steady (asking-moves same d) (body tag) z _ _ (opened (deepestReading - d) st) (asking (deepestReading - d) st l) i b (funded tag .by (st .at) i)
 
   pub table-moves : (limit room d : ℕ) → Moving s promise (readTable body s limit room d)
   unfolding readTable

@@ -14,7 +14,6 @@ use Rattle.scan.specs.Bytes.{pick, bytes, starts, spelled}
 use Rattle.grammar.specs.Program.{Program, skip, Out, Part, Shut, Same, run, at+}
 use Rattle.grammar.specs.Words.{ordered}
 use Rattle.grammar.specs.declared.State.{State}
-use Rattle.grammar.proofs.Laws.{Runs}
 
 -- the entry that decides, and the bytes that it takes; or none stands here
 pub data Choice (X : Type 0) : Type 0 where
@@ -82,17 +81,3 @@ module _ {Tag T : Type 0} {Ans : Tag → Type 0} (s : List ℕ) (same : Same T) 
     ordered-decided table p other st t h =
         ordered-chosen table k p st t ∙ decided-step p other (chosen table (drop (st .at) s)) st t h
         ∙ ap (λ (b : B). follows b st t) (sym (spelled-chosen make table other (drop (st .at) s)))
-
-    -- the rule for a reader: b is what its leaf answers
-    pub on-ordered :
-        (table : List (String × X)) (p : Program Tag Ans A) (other : B) {b : B} {st : State} {t : T} {o : Out A T} → b ≡ spelled make table other (drop (st .at) s) →
-        (chosen table (drop (st .at) s) ≡ none → run s same shut rec p st t ≡ follows other st t) → Runs s same shut rec (k (value b)) (at+ (taken b) st) t o → Runs s same shut rec (ordered table k p) st t o
-    on-ordered table p other {st = st} {t = t} e h r = record { is = r .is ∙ ap (λ (b : B). follows b st t) e ∙ sym (ordered-decided table p other st t h) }
-
-  -- the two cases of a choice, as rules for a reader
-  pub on-entry : {X A : Type 0} (table : List (String × X)) (k : X → Program Tag Ans A) (p : Program Tag Ans A) {x : X} {n : ℕ} {st : State} {t : T} {o : Out A T} → chosen table (drop (st .at) s) ≡ entry x n → Runs s same shut rec (k x) (at+ n st) t o → Runs s same shut rec (ordered table k p) st t o
-  unfolding run
-  on-entry {X} table k p {st = st} {t = t} e r = record { is = r .is ∙ ap (λ (c : Choice X). runChosen k p c st t) (sym e) ∙ sym (ordered-chosen table k p st t) }
-
-  pub on-none : {X A : Type 0} (table : List (String × X)) (k : X → Program Tag Ans A) {p : Program Tag Ans A} {st : State} {t : T} {o : Out A T} → chosen table (drop (st .at) s) ≡ none → Runs s same shut rec p st t o → Runs s same shut rec (ordered table k p) st t o
-  on-none {X} table k {p = p} {st = st} {t = t} e r = record { is = r .is ∙ ap (λ (c : Choice X). runChosen k p c st t) (sym e) ∙ sym (ordered-chosen table k p st t) }

@@ -41,6 +41,7 @@ use Rattle.grammar.specs.Counts.{Node, asks, readNodes}
 use Rattle.grammar.specs.declared.State.{State}
 use Rattle.grammar.proofs.Leaves.{guard-number-fits, guard-number-least, md5-fits, md5-least, calling-conv-fits, calling-conv-least, func-class-fits, func-class-least, return-class-fits, string-width-fits, string-width-least, guard-marker-fits, guard-marker-least, operator-fits, operator-least, storage-class-fits, qualifier-fits, func-qualifiers-fits, ReferenceFits, reference-fits, EncodedFits, encoded-fits}
 use Rattle.grammar.proofs.Funded.{Promise, Funded, Fund, Pays, pays, capped, ends, fails, looks, chooses, recalls, keeps, stores, on, more, taken, leaves, spanned, classes, numbers, unsigneds, strings, hexes, orders-all, digits, reads, shuts, then}
+use Rattle.scan.specs.Limits.{deepestReading}
 
 -- A part needs nothing and gives one, for the node or the place that refers to it. Five earn less than that:
 -- no type, and the symbol's own at its end, take no byte; the symbols of `??@` and `?$` count one node more than their names, and a template's `@` pays for two.
@@ -460,5 +461,5 @@ module _ (s : List ℕ) where
     grammar-pays = pays body same s promise funded Parse st no-at no-used refl
 
     -- a cap on the nodes of twice the symbol's length or more changes nothing, whatever room is lent
-    pub grammar-capped : st .deep ≡ 0 → (limit nodes cap : ℕ) → limit ≤ 200 → 2 * length s ≤ cap → readNodes body same s limit (min cap nodes) limit Parse st [] ≡ readNodes body same s limit nodes limit Parse st []
+    pub grammar-capped : st .deep ≡ 0 → (limit nodes cap : ℕ) → limit ≤ deepestReading → 2 * length s ≤ cap → readNodes body same s limit (min cap nodes) limit Parse st [] ≡ readNodes body same s limit nodes limit Parse st []
     grammar-capped no-deep limit nodes cap low c = capped body same s promise funded Parse st no-at no-deep no-used refl limit nodes cap low c

@@ -26,6 +26,7 @@ use Rattle.grammar.specs.declared.State.{State}
 use Rattle.grammar.specs.declared.Refusal.the-variants.{Deep, Full}
 use Rattle.grammar.proofs.Demands.{settles}
 use Rattle.grammar.proofs.Paid.{grammar-capped}
+use Rattle.scan.specs.Limits.{deepestReading}
 
 -- nodes in their cells
 abbrev rowOf : Node → row.Node
@@ -182,7 +183,7 @@ module _ (t₀ s : List ℕ) (limit room : ℕ) (enough : room ≤ table.nodes t
         (reads-agree d) (body tag) (opened (limit - d) st) t ns h
 
     -- a whole reading, from an empty list of nodes
-    pub held : limit ≤ 200 → (tag : Tag) (st : State) → st .used ≡ 0 → Agree t₀ (readTable body s limit room limit tag st t₀) (settle limit room (asks body (sameNodes s) s tag st))
+    pub held : limit ≤ deepestReading → (tag : Tag) (st : State) → st .used ≡ 0 → Agree t₀ (readTable body s limit room limit tag st t₀) (settle limit room (asks body (sameNodes s) s tag st))
     held low tag st no-used =
         let none : Holds t₀ (st .used) [] t₀ = rw no-used (record { is = refl; long = refl; fits = omega arith }) in
         subst (λ (o : Out (Ans tag) (List Node)). Agree t₀ (readTable body s limit room limit tag st t₀) o) (settles body (sameNodes s) s limit room low tag st) (reads-agree limit tag st t₀ [] none)
@@ -196,7 +197,7 @@ module _ {A : Type 0} {t₀ : List ℕ} (x : Out A (List ℕ)) (y : Out A (List 
   cleared = rw (a .state) (ap (replicate (y .state .used * 12) 0 ++_) (back-held (a .holds)))
 
 -- this grammar's reading: twice the symbol's length in nodes is room enough, so it doesn't see that it has no more
-module _ (s t : List ℕ) (st : State) (no-at : st .at ≡ 0) (no-used : st .used ≡ 0) (no-deep : st .deep ≡ 0) (limit cap : ℕ) (low : limit ≤ 200) (enough : 2 * length s ≤ cap) where
+module _ (s t : List ℕ) (st : State) (no-at : st .at ≡ 0) (no-used : st .used ≡ 0) (no-deep : st .deep ≡ 0) (limit cap : ℕ) (low : limit ≤ deepestReading) (enough : 2 * length s ≤ cap) where
   abbrev own : Out (Ans Parse) Log
   own = asks body (sameNodes s) s Parse st
 

@@ -29,6 +29,7 @@ use Rattle.grammar.proofs.Funded.{looks, ends, chooses, stores, digit-i
 use Rattle.grammar.proofs.Paid.{promise, Earns, nesteds, varTypes, type-refs, funded}
 use Rattle.grammar.proofs.Memos.{Steady, nodes-steady, asking-steady, table-steady}
 use Rattle.grammar.proofs.Moves.{Reaches, pick-reaches, Moving, Gains, earned, then-gains, node-gains, digit-gains, then-alike, nodes-move, asking-moves, table-moves}
+use Rattle.scan.specs.Limits.{deepestReading}
 
 pick-alike : {A : Type 0} (b : Bool) (x y y′ : A) → (b ≡ false → y ≡ y′) → pick b x y ≡ pick b x y′
 pick-alike true x y y′ e = refl
@@ -141,7 +142,7 @@ module _ (s : List ℕ) where
   asking-ends : (same : Same (List Node)) (d : ℕ) → Ending s (readAsking body same s d)
   unfolding readAsking body
   asking-ends same zero st l i = tt
-  asking-ends same (suc d) st l i = none (nested-ends s (λ used l. same used (l .nodes)) shutAsking (readAsking body same s d) (opened (200 - d) st) (asking (200 - d) st l) i)
+  asking-ends same (suc d) st l i = none (nested-ends s (λ used l. same used (l .nodes)) shutAsking (readAsking body same s d) (opened (deepestReading - d) st) (asking (deepestReading - d) st l) i)
 
   table-ends : (limit room d : ℕ) → Ending s (readTable body s limit room d)
   unfolding readTable body

@@ -6,10 +6,12 @@ use mathlib.Core.List.{List, [], _∷_, _++_}
 use mathlib.Core.Bool.{Bool, true, false}
 use lib.Dec.{leb}
 use Rattle.scan.specs.Bytes.{pick}
+use Rattle.node.specs.Kind.{isPlace}
 use Rattle.grammar.specs.Program.{Program, Out, out, found, refused, Part, Shut, Same, run}
 use Rattle.grammar.specs.declared.State.{State}
 use Rattle.grammar.specs.declared.Refusal.{Refusal}
 use Rattle.grammar.specs.declared.Refusal.the-variants.{Deep, Full}
+use Rattle.scan.specs.Limits.{deepestReading}
 
 -- a node: its kind, its height, its numbers, and its references, each a node's number and one more, or 0
 pub record Node : Type 0 where
@@ -31,14 +33,14 @@ tallest ns (r ∷ rs) = max (heightOf ns r) (tallest ns rs)
 
 -- a node stands one above what it refers to; a place of a list (kinds 1 and 2) adds no height
 abbrev pub rises : ℕ → ℕ
-rises kind = pick (leb kind 2) 0 1
+rises kind = pick (isPlace kind) 0 1
 
 abbrev pub made : ℕ → List ℕ → List ℕ → List Node → Node
 made kind numbers refs ns = record { kind = kind; height = tallest ns refs + rises kind; numbers = numbers; refs = refs }
 
 -- the depth that closing it asks for: its height; a place asks for none
 abbrev pub deepens : Node → ℕ
-deepens n = pick (leb (n .kind) 2) 0 (n .height)
+deepens n = pick (isPlace (n .kind)) 0 (n .height)
 
 -- the state with one node more, and with one part more open
 abbrev pub closed : ℕ → State → State
@@ -90,15 +92,15 @@ shutAsking kind numbers refs st l =
 abbrev pub asking : ℕ → State → Log → Log
 asking count st l = record { nodes = l .nodes; asked = l .asked ++ (record { limit = depth; count = count; state = st; nodes = l .nodes } ∷ []) }
 
--- a part of a grammar, read where d more parts may open: no limit but 200 open parts, past which the reading stops with a demand of 201
+-- a part of a grammar, read where d more parts may open: no limit but the deepest reading, past which it stops with a demand of one more
 module _ {Tag : Type 0} {Ans : Tag → Type 0} (body : (tag : Tag) → Program Tag Ans (Ans tag)) (same : Same (List Node)) (s : List ℕ) where
   unfoldable pub readAsking : ℕ → Part Tag Ans Log
   readAsking zero tag st l = out (refused Deep) (opened 201 st) (asking 201 st l)
-  readAsking (suc d) tag st l = run s (λ used l. same used (l .nodes)) shutAsking (readAsking d) (body tag) (opened (200 - d) st) (asking (200 - d) st l)
+  readAsking (suc d) tag st l = run s (λ used l. same used (l .nodes)) shutAsking (readAsking d) (body tag) (opened (deepestReading - d) st) (asking (deepestReading - d) st l)
 
   -- a whole reading, from an empty list of nodes
   abbrev pub asks : (tag : Tag) → State → Out (Ans tag) Log
-  asks tag st = readAsking 200 tag st (record { nodes = []; asked = [] })
+  asks tag st = readAsking deepestReading tag st (record { nodes = []; asked = [] })
 
 -- the budget of a limit, and the name by which it refuses
 abbrev pub budget : ℕ → ℕ → Limit → ℕ

@@ -16,7 +16,8 @@ use Rattle.strings.specs.declared.encoded.Encoded.{Encoded}
 use Rattle.strings.specs.declared.encoded.Encoded.the-variants as encoded
 use Rattle.letters.specs.StorageClass.{CONST, VOLATILE, PTR64}
 use Rattle.letters.specs.Classes.{readCallingConv, readFuncClass, readStorageClass, readQualifier, readStorageClassForReturn, readFuncQualifiers, readStringWidth, readGuardMarker}
-use Rattle.operators.specs.Operators.{readOperator}
+use Rattle.letters.specs.FuncClass.{STATIC}
+use Rattle.operators.specs.Operators.{readOperator, LocalStaticGuard, LocalStaticThreadGuard, RTTITypeDescriptor, RTTIBaseClassDescriptor}
 use Rattle.forms.specs.Types.{typeForms, typeLetters, typeReference}
 use Rattle.forms.specs.Begins.{parseForms, symbolForms, nameForms}
 use Rattle.forms.specs.declared.types.TypeForm.{TypeForm}
@@ -118,6 +119,7 @@ varType sc = look λ s at. referenceOr (typeReference (drop at s)) (part (VarTyp
 
 -- read_scope
 unfoldable pub scopeFrom : ℕ → ℕ → Reading ℕ
+-- not reached: each turn takes a byte, so the turns never run out (proofs/Turns.antt)
 scopeFrom zero last = fail
 scopeFrom (suc turns) last =
     "@" ⇒ ret last ∥ (do
@@ -152,6 +154,7 @@ newParam last = do
   place TypePlace t last
 
 unfoldable pub paramsFrom : ℕ → ℕ → Reading ℕ
+-- not reached: each turn takes a byte, so the turns never run out (proofs/Turns.antt)
 paramsFrom zero last = fail
 paramsFrom (suc turns) last =
     "@" ↝ listEnd last ∥
@@ -213,12 +216,12 @@ rttiBaseClassDescriptor = do
   close RttiBaseClassDescriptor (nvOffset ∷ vbptrOffset ∷ vbtableOffset ∷ flags ∷ []) []
 
 abbrev pub isGuard : ℕ → Bool
-isGuard operator = pick (eqb operator 47) true (eqb operator 74)
+isGuard operator = pick (eqb operator LocalStaticGuard) true (eqb operator LocalStaticThreadGuard)
 
 unfoldable pub specialName : Reading (ℕ × Bool)
 specialName = do
   operator ← leaf readOperator
-  n ← when (eqb operator 75) rttiTypeDescriptor (when (eqb operator 76) rttiBaseClassDescriptor (close Operator (operator ∷ []) []))
+  n ← when (eqb operator RTTITypeDescriptor) rttiTypeDescriptor (when (eqb operator RTTIBaseClassDescriptor) rttiBaseClassDescriptor (close Operator (operator ∷ []) []))
   ret (n, isGuard operator)
 
 -- read_unqualified_name(function), its digit apart
@@ -234,7 +237,9 @@ unqualifiedBody function =
 
 -- read_nested_name. A namespace with no id is not stored
 unfoldable pub nestedOf : NameForm → Reading ℕ
+-- not reached: nestedName takes a digit before it opens this part
 nestedOf (name.Stored i) = nameOf i
+-- not reached: nameForms has no such entry, since nestedBody takes `??` before
 nestedOf name.Parsed = fail
 nestedOf name.Template = do
   n ← templateName
@@ -260,6 +265,7 @@ nestedOf name.Interface = do
 nestedOf name.Discriminator = do
   discriminator ← number
   close Discriminator (discriminator ∷ []) []
+-- not reached: nameForms has no such entry, and nestedBody's last choice is plainName itself
 nestedOf name.Plain = plainName
 
 unfoldable pub nestedBody : Reading ℕ
@@ -387,6 +393,7 @@ letterType sc letter.VolatilePtr = pointing Ptr VOLATILE
 letterType sc letter.ConstVolatilePtr = pointing Ptr (CONST + VOLATILE)
 letterType sc letter.Array = array
 letterType sc (letter.Basic k) = close (Basic k) (sc ∷ []) []
+-- not reached: typeLetters has no such entry, and plainType's last choice is noLetter
 letterType sc letter.Refused = fail
 
 -- another letter is taken, and behind `_` the next one too
@@ -441,7 +448,7 @@ encodedString width = look λ s at. charsIs at (readEncodedString width (drop at
 
 -- parse, the symbol's type
 abbrev pub isStatic : ℕ → Bool
-isStatic funcClass = eqb (funcClass / 16 % 2) 1
+isStatic funcClass = eqb (funcClass / STATIC % 2) 1
 
 unfoldable pub memberFunction : Reading ℕ
 memberFunction = do
@@ -486,6 +493,7 @@ symbolTypeOf symbol.VCallThunk = do
   conv ← leaf readCallingConv
   close VCallThunk (offset ∷ conv ∷ []) []
 symbolTypeOf symbol.Rtti = close RTTIType [] []
+-- not reached, these two: symbolForms has no such entries, and symbolTypeBody's last choices do the same
 symbolTypeOf symbol.Member = memberFunction
 symbolTypeOf symbol.Nothing = close None [] []
 

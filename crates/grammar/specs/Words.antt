@@ -8,19 +8,16 @@ use Prim.Native.Nat.{ℕ, _-_, _%_}
 use Prim.Native.String.{String}
 use Prim.Native.Char.{code}
 use mathlib.Core.List.{List, [], _∷_}
-use mathlib.Core.Bool.{Bool, true, false}
+use mathlib.Core.Bool.{Bool}
 use lib.ListN.{length, getD, drop}
-use lib.Dec.{ltb, leb, eqb}
-use Rattle.scan.specs.Bytes.{pick, bytes, starts, isDigit}
-use Rattle.scan.specs.Cursor.{getByte}
+use lib.Dec.{ltb, leb}
+use Rattle.scan.specs.Bytes.{bytes, starts, isDigit}
 use Rattle.scan.specs.Number.{readNumber, readUnsigned}
 use Rattle.scan.specs.Name.{readString, readHexDigits}
 use Rattle.scan.specs.declared.cursor.Leaf.{Leaf}
 use Rattle.scan.specs.declared.cursor.Leaf.the-variants.{Value, Bad}
 use Rattle.scan.specs.declared.cursor.Span.{Span}
 use Rattle.scan.specs.declared.cursor.Span.the-variants as spans
-use Rattle.scan.specs.declared.cursor.Found.{Found}
-use Rattle.scan.specs.declared.cursor.Found.the-variants.{Byte, Nothing}
 use Rattle.letters.specs.declared.Class.{Class}
 use Rattle.grammar.specs.Program.{names, types, Program, ret, fail, look, when, skip, recall, keep, store, sub}
 use Rattle.grammar.specs.declared.Memo.{Memo}
@@ -28,11 +25,6 @@ use Rattle.grammar.specs.declared.Memo.{Memo}
 -- the byte at a place; past the end there is 256, which is no byte
 abbrev pub byteAt : List ℕ → ℕ → ℕ
 byteAt s at = getD s at 256
-
--- is it one of these
-abbrev pub among : List ℕ → ℕ → Bool
-among [] b = false
-among (c ∷ cs) b = pick (eqb b c) true (among cs b)
 
 module _ {Tag : Type 0} {Ans : Tag → Type 0} where
   infixl 10 _>>=_
@@ -52,10 +44,6 @@ module _ {Tag : Type 0} {Ans : Tag → Type 0} where
   infixr 20 _↝_∥_
   abbrev pub _↝_∥_ : {A : Type 0} → String → Program Tag Ans A → Program Tag Ans A → Program Tag Ans A
   b ↝ p ∥ q = look λ s at. when (starts (bytes b) (drop at s)) p q
-
-  -- if one of these bytes stands here, take it and do p, else q
-  abbrev pub oneOf : {A : Type 0} → String → Program Tag Ans A → Program Tag Ans A → Program Tag Ans A
-  oneOf b p q = look λ s at. when (among (bytes b) (byteAt s at)) (skip 1 p) q
 
   -- at the end of the symbol p, else q
   abbrev pub atEnd : {A : Type 0} → Program Tag Ans A → Program Tag Ans A → Program Tag Ans A
@@ -100,14 +88,6 @@ module _ {Tag : Type 0} {Ans : Tag → Type 0} where
 
   abbrev pub count : (List ℕ → ℕ) → Program Tag Ans ℕ
   count f = look λ s at. countIs (f (drop at s))
-
-  -- the byte here is taken; at the end that refuses
-  abbrev pub byteIs : Found → Program Tag Ans ℕ
-  byteIs (Byte c) = skip 1 (ret c)
-  byteIs Nothing = fail
-
-  abbrev pub get : Program Tag Ans ℕ
-  get = look λ s at. byteIs (getByte (drop at s))
 
   -- ordered choice among spellings: the first that stands here is taken, and its value decides what follows
   abbrev pub ordered : {X A : Type 0} → List (String × X) → (X → Program Tag Ans A) → Program Tag Ans A → Program Tag Ans A

@@ -1,7 +1,12 @@
 // The state of a reading, declared beside the language that reads.
+// As many names and types are stored in a memo as there are digits to name them.
+pub const ENTRIES: usize = 10;
+
+pub type Entries = [u16; ENTRIES];
+
 pub struct Memo {
-    pub names: [u16; 10],
-    pub types: [u16; 10],
+    pub names: Entries,
+    pub types: Entries,
     pub names_len: u8,
     pub types_len: u8,
 }

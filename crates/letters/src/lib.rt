@@ -5,6 +5,29 @@ ghost use Prim.Native.Nat.{ℕ, _≤_};
 ghost use lib.ListN.{length, drop};
 ghost use Rattle.scan.specs.Number.{readNumber};
 ghost use Rattle.letters.specs.Classes.{readCallingConv, funcClassLetter, adjusted, readFuncClass, readStorageClass, readQualifier, readStorageClassForReturn, optional, refQualifier, readFuncQualifiers, readStringWidth, readGuardMarker};
+
+pub mod conventions;
+pub mod function;
+pub mod storage;
+
+use crate::conventions::CDECL;
+use crate::conventions::FASTCALL;
+use crate::conventions::PASCAL;
+use crate::conventions::STDCALL;
+use crate::conventions::THISCALL;
+use crate::function::FAR;
+use crate::function::GLOBAL;
+use crate::function::PRIVATE;
+use crate::function::PROTECTED;
+use crate::function::PUBLIC;
+use crate::function::STATIC;
+use crate::function::THUNK;
+use crate::function::VIRTUAL;
+use crate::storage::LVALUE_QUAL;
+use crate::storage::PTR64;
+use crate::storage::RESTRICT;
+use crate::storage::RVALUE_QUAL;
+use crate::storage::UNALIGNED;
 use scan::cursor::Leaf;
 use scan::cursor::consume;
 use scan::number::read_number;
@@ -14,16 +37,6 @@ pub struct Class {
     pub bits: u32,
     pub taken: usize,
 }
-
-const CDECL: u32 = 0;
-
-const PASCAL: u32 = 1;
-
-const THISCALL: u32 = 2;
-
-const STDCALL: u32 = 3;
-
-const FASTCALL: u32 = 4;
 
 fn calling_conv(c: u8) -> Leaf
     ensures { λ r. ⌜ ((rest : List ℕ) → r ≡ readCallingConv (c ∷ rest)) ⌝ }
@@ -47,23 +60,6 @@ pub fn read_calling_conv(s: &[u8], at: usize) -> Leaf
         Leaf::Bad(0)
     }
 }
-
-// The bits of FuncClass.
-const PUBLIC: u32 = 1;
-
-const PROTECTED: u32 = 2;
-
-const PRIVATE: u32 = 4;
-
-const GLOBAL: u32 = 8;
-
-const STATIC: u32 = 16;
-
-const VIRTUAL: u32 = 32;
-
-const FAR: u32 = 64;
-
-const THUNK: u32 = 128;
 
 fn func_class(c: u8) -> Leaf
     ensures { λ r. ⌜ ((rest : List ℕ) → r ≡ funcClassLetter (c ∷ rest)) ⌝ }
@@ -127,17 +123,6 @@ pub fn read_func_class(s: &[u8], at: usize) -> Leaf
         Leaf::Bad(n) => Leaf::Bad(n),
     }
 }
-
-// The bits of StorageClass that are not letters in a row.
-const UNALIGNED: u32 = 16;
-
-const RESTRICT: u32 = 32;
-
-const PTR64: u32 = 64;
-
-const LVALUE_QUAL: u32 = 128;
-
-const RVALUE_QUAL: u32 = 256;
 
 // A letter of StorageClass: const, volatile and far are its lowest bits.
 fn storage_class(c: u8) -> Class

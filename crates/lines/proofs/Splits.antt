@@ -17,6 +17,8 @@ use Rattle.scan.specs.Bytes.{pick}
 use Rattle.answer_line.proofs.Answers.{long-line}
 use Rattle.answer_line.specs.Line.{lineOf}
 use Rattle.lines.specs.Output.{newlineAt, Open, linesFrom, answersTo, output}
+use Rattle.scan.specs.Limits.{longestSymbol}
+use Rattle.lines.specs.Steps.{keptMost}
 
 -- a newline ends a line
 abbrev FirstLine : List ℕ → List ℕ → List ℕ → ℕ → Type 0
@@ -60,7 +62,7 @@ open-take (suc k) [] h = refl
 open-take (suc k) (c ∷ s) h = let o = open-cons c s h in rw (o .0) (ap suc (open-take k s (o .1)))
 
 -- of a line that is too long its beginning is enough
-long-same : (a b more : List ℕ) → 4096 < length a → 4096 < length b → answersTo (linesFrom a more) ≡ answersTo (linesFrom b more)
+long-same : (a b more : List ℕ) → longestSymbol < length a → longestSymbol < length b → answersTo (linesFrom a more) ≡ answersTo (linesFrom b more)
 unfolding linesFrom answersTo
 long-same a b [] h k = rw (ne-eqb (length a) 0 (λ e. omega arith), ne-eqb (length b) 0 (λ e. omega arith), long-line a h, long-line b k)
 long-same a b (c ∷ s) h k = by (eqb c 10) (long-same (a ++ (c ∷ [])) (b ++ (c ∷ [])) s (omega (arith, length-append a (c ∷ []))) (omega (arith, length-append b (c ∷ []))))
@@ -70,15 +72,15 @@ long-same a b (c ∷ s) h k = by (eqb c 10) (long-same (a ++ (c ∷ [])) (b ++ (
     by true e = rw (long-line a h, long-line b k)
     by false e = e
 
-pub cut-short : (s more : List ℕ) → Open s → output (take 4097 s ++ more) ≡ output (s ++ more)
+pub cut-short : (s more : List ℕ) → Open s → output (take keptMost s ++ more) ≡ output (s ++ more)
 unfolding output
-cut-short s more o = by (decLe (length s) 4097)
+cut-short s more o = by (decLe (length s) keptMost)
   where
-    by : Dec (length s ≤ 4097) → answersTo (linesFrom [] (take 4097 s ++ more)) ≡ answersTo (linesFrom [] (s ++ more))
-    by (yes h) = rw (take-all 4097 s h)
+    by : Dec (length s ≤ keptMost) → answersTo (linesFrom [] (take keptMost s ++ more)) ≡ answersTo (linesFrom [] (s ++ more))
+    by (yes h) = rw (take-all keptMost s h)
     by (no n) =
-        let e : length (take 4097 s) ≡ 4097 = length-take-le 4097 s (omega (arith, n)) in
-        ap answersTo (carried [] (take 4097 s) more (open-take 4097 s o)) ∙ long-same (take 4097 s) s more (omega arith) (omega (arith, n)) ∙ ap answersTo (sym (carried [] s more o))
+        let e : length (take keptMost s) ≡ keptMost = length-take-le keptMost s (omega (arith, n)) in
+        ap answersTo (carried [] (take keptMost s) more (open-take keptMost s o)) ∙ long-same (take keptMost s) s more (omega arith) (omega (arith, n)) ∙ ap answersTo (sym (carried [] s more o))
 
 -- the answer to the first line, and the output of what follows it
 pub answers-first : (s more : List ℕ) → newlineAt s < length s → output (s ++ more) ≡ lineOf (take (newlineAt s) s) ++ output (drop (suc (newlineAt s)) s ++ more)

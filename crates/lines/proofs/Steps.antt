@@ -18,6 +18,8 @@ use Rattle.answer_line.proofs.Answers.{line-short}
 use Rattle.lines.specs.Output.{newlineAt, Open, output}
 use Rattle.lines.specs.Steps.{Steps, Goes, Share}
 use Rattle.lines.proofs.Splits.{answers-first, last-line, no-line, cut-short, open-take}
+use Rattle.answer_line.specs.Line.{longestAnswer}
+use Rattle.lines.specs.Steps.{keptMost}
 
 -- what is written where there is room stands after what waits
 module _ (w : List ℕ) {b b′ : List ℕ} {o o′ : ℕ} (v : Wrote (lit w) b o b′ o′) (h : o + length w ≤ length b) where
@@ -34,7 +36,7 @@ module _ (w : List ℕ) {b b′ : List ℕ} {o o′ : ℕ} (v : Wrote (lit w) b 
 
 -- one line more
 module _ {b b′ : List ℕ} {o o′ : ℕ} (i : List ℕ) (at end : ℕ) (v : Wrote (lit (lineOf (take (end - at) (drop at i)))) b o b′ o′)
-    (room : o + 4100 ≤ length b) (e : end ≡ at + newlineAt (drop at i)) (l : end < length i) where
+    (room : o + longestAnswer ≤ length b) (e : end ≡ at + newlineAt (drop at i)) (l : end < length i) where
   abbrev line : List ℕ
   line = take (end - at) (drop at i)
 
@@ -60,7 +62,7 @@ module _ {b b′ : List ℕ} {o o′ : ℕ} (i : List ℕ) (at end : ℕ) (v : W
       (ap₂ (λ n r. lineOf (take n (drop at i)) ++ output (r ++ more)) is-line (sym next) ∙ sym (answers-first (drop at i) more inside))
 
 -- the rest at the end
-module _ (s : List ℕ) {b b′ : List ℕ} {o o′ : ℕ} (v : Wrote (lit (lineOf s)) b o b′ o′) (room : o + 4100 ≤ length b) where
+module _ (s : List ℕ) {b b′ : List ℕ} {o o′ : ℕ} (v : Wrote (lit (lineOf s)) b o b′ o′) (room : o + longestAnswer ≤ length b) where
   rest-fits : o + length (lineOf s) ≤ length b
   rest-fits = omega (arith, line-short s)
 
@@ -109,21 +111,21 @@ module _ (i i′ : List ℕ) (at n r : ℕ) (full : Bool) (share : Share (n - at
       let e : n ≡ at + (n - at) = omega arith in
       ap (λ x. drop at (take x i)) e ∙ ap (drop at) (take-add at (n - at) i) ∙ drop-at (take at i) rest at (length-take-le at i (omega arith))
 
-  short-is : full ≡ false → take r i′ ≡ take 4097 rest
-  short-is f = moved ∙ by (decLe (n - at) 4097)
+  short-is : full ≡ false → take r i′ ≡ take keptMost rest
+  short-is f = moved ∙ by (decLe (n - at) keptMost)
     where
-      by : Dec (n - at ≤ 4097) → take r (drop at i) ≡ take 4097 rest
+      by : Dec (n - at ≤ keptMost) → take r (drop at i) ≡ take keptMost rest
       by (yes q) =
           let c : r ≡ n - at = omega (arith, share .short f) in
-          ap (λ x. take x (drop at i)) c ∙ sym (take-all 4097 rest (omega (arith, length-take (n - at) (drop at i))))
+          ap (λ x. take x (drop at i)) c ∙ sym (take-all keptMost rest (omega (arith, length-take (n - at) (drop at i))))
       by (no q) =
-          let c : r ≡ 4097 = omega (arith, share .short f, q) in
-          ap (λ x. take x (drop at i)) c ∙ sym (take-take 4097 (n - at) (drop at i) (omega (arith, q)))
+          let c : r ≡ keptMost = omega (arith, share .short f, q) in
+          ap (λ x. take x (drop at i)) c ∙ sym (take-take keptMost (n - at) (drop at i) (omega (arith, q)))
 
   module _ (o : full ≡ false → Open (drop at (take n i))) where
     pub kept-begun : full ≡ false → Open (take r i′)
     kept-begun f =
-        let p : Open (take 4097 rest) = open-take 4097 rest (rw rest-is at (o f)) in
+        let p : Open (take keptMost rest) = open-take keptMost rest (rw rest-is at (o f)) in
         rw (short-is f) p
 
     -- what is owed for it is what was owed for the rest
@@ -138,11 +140,11 @@ module _ (i i′ : List ℕ) (at n r : ℕ) (full : Bool) (share : Share (n - at
     step-owes kept came {b} {b′} {used} {put} e g = record { owes = λ more. ap (λ x. take put b′ ++ x) (kept-owes more) ∙ g .owes more ∙ ap (λ x. take used b ++ output (x ++ more)) (ap (λ x. take x i) e ∙ take-add kept came i) }
 
 -- where there is room for an answer no line is left, and where there is none something waits
-pub room-open : {p b b′ : List ℕ} {used at put m : ℕ} → Goes p b used b′ at put → m ≡ length b → ltb (m - put) 4100 ≡ false → Open (drop at p)
-room-open {put = put} {m = m} g e f = g .ends (omega (arith, ltb-false (m - put) 4100 f))
+pub room-open : {p b b′ : List ℕ} {used at put m : ℕ} → Goes p b used b′ at put → m ≡ length b → ltb (m - put) longestAnswer ≡ false → Open (drop at p)
+room-open {put = put} {m = m} g e f = g .ends (omega (arith, ltb-false (m - put) longestAnswer f))
 
-pub room-waits : (m l used put : ℕ) → m ≡ l → used + 4100 ≤ l → ltb (m - put) 4100 ≡ true → 0 < put
-room-waits m l used put e h f = omega (arith, ltb-true (m - put) 4100 f)
+pub room-waits : (m l used put : ℕ) → m ≡ l → used + longestAnswer ≤ l → ltb (m - put) longestAnswer ≡ true → 0 < put
+room-waits m l used put e h f = omega (arith, ltb-true (m - put) longestAnswer f)
 
 pub never : {A : Type 0} → false ≡ true → A
 never e = let z : _≡_ {A = ℕ} 0 1 = cc in absurd (omega arith)

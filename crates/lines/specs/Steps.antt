@@ -6,6 +6,12 @@ use mathlib.Core.List.{List, _++_}
 use lib.ListN.{length, take, drop}
 use Rattle.lines.specs.declared.Work.{Work}
 use Rattle.lines.specs.Output.{Open, output}
+use Rattle.scan.specs.Limits.{longestSymbol}
+use Rattle.answer_line.specs.Line.{longestAnswer}
+
+-- so many bytes of a line are kept from one read to the next: enough to refuse it for its length
+abbrev pub keptMost : ℕ
+keptMost = longestSymbol + 1
 
 -- A step over bytes: some are kept of the input, some of the output wait, some came; then others are kept and wait.
 -- What waits, and then what is owed for what is kept and whatever follows it, is what it was.
@@ -18,7 +24,7 @@ pub record Ready (i b : List ℕ) (w : Work) : Type 0 where
   pub fits : w .used ≤ length b
   -- where it did not stop for want of room, the beginning of a line is kept
   pub begun : w .full ≡ false → Open (take (w .kept) i)
-  pub small : w .full ≡ false → w .kept ≤ 4097
+  pub small : w .full ≡ false → w .kept ≤ keptMost
   -- else something waits, and makes room when it is handed out
   pub waits : w .full ≡ true → 0 < w .used
 
@@ -28,10 +34,10 @@ pub record Goes (i b : List ℕ) (used : ℕ) (b′ : List ℕ) (at used′ : �
   pub fits : used′ ≤ length b
   pub owes : (more : List ℕ) → take used′ b′ ++ output (drop at i ++ more) ≡ take used b ++ output (i ++ more)
   -- no line is left where there is room for one
-  pub ends : used′ + 4100 ≤ length b → Open (drop at i)
+  pub ends : used′ + longestAnswer ≤ length b → Open (drop at i)
 
--- Of a rest so many bytes are kept: all where there is no room, else at most 4,097.
+-- Of a rest so many bytes are kept: all where there is no room, else at most these.
 pub record Share (rest : ℕ) (full : Bool) (r : ℕ) : Type 0 where
   pub within : r ≤ rest
   pub whole : full ≡ true → r ≡ rest
-  pub short : full ≡ false → r ≡ min rest 4097
+  pub short : full ≡ false → r ≡ min rest keptMost

@@ -3,9 +3,10 @@ ghost use mathlib.Core.Path.{_≡_};
 ghost use Prim.Native.Nat.{_+_, _≤_};
 ghost use lib.ListN.{length, take, drop};
 ghost use Rattle.lines.specs.Steps.{Share};
+use scan::limits::LONGEST_SYMBOL;
 
 // So many bytes of a line are kept from one read to the next: enough to refuse it for its length.
-const KEPT: usize = 4_097;
+const KEPT: usize = LONGEST_SYMBOL + 1;
 
 // How many bytes of a rest are kept: all where lines may be left in it.
 pub fn share(rest: usize, full: bool) -> usize

@@ -6,11 +6,12 @@ ghost use lib.ListN.{length, take, drop};
 ghost use Rattle.lines.specs.Output.{Open, output};
 ghost use Rattle.lines.specs.Steps.{Steps, Ready};
 ghost use Rattle.lines.specs.Run.{AllAnswered};
+ghost use Rattle.answer_line.specs.Line.{lineCells, lineText, longestAnswer};
 
 mod front;
 mod lines;
 
-use lines::LONGEST;
+use answer_line::LONGEST_ANSWER;
 
 // How many bytes of the input's beginning are kept, how many of the output wait, and whether a step stopped for want of room.
 pub struct Work {
@@ -29,9 +30,9 @@ pub fn step(
     w: Work,
 ) -> Work
     requires { ⌜ w .kept + came ≤ length (now input) ⌝ }
-    requires { ⌜ w .used + 4100 ≤ length (now out) ⌝ }
-    requires { ⌜ length (now table) ≡ 12288 ⌝ }
-    requires { ⌜ length (now text) ≡ 4096 ⌝ }
+    requires { ⌜ w .used + longestAnswer ≤ length (now out) ⌝ }
+    requires { ⌜ length (now table) ≡ lineCells ⌝ }
+    requires { ⌜ length (now text) ≡ lineText ⌝ }
     ensures { λ r. ⌜ Steps (take (w .kept) (now (input .entry))) (take (w .used) (now (out .entry))) (take came (drop (w .kept) (now (input .entry)))) (take (r .kept) (now (input .exit))) (take (r .used) (now (out .exit))) ⌝ }
     ensures { λ r. ⌜ Ready (now (input .exit)) (now (out .exit)) r ⌝ }
 {
@@ -41,7 +42,7 @@ pub fn step(
     let place = lines::answer_lines(&input[..n], out, used, table, text);
     let at = place.at;
     let put = place.used;
-    let full = out.len() - put < LONGEST;
+    let full = out.len() - put < LONGEST_ANSWER;
     let count = front::share(n - at, full);
     front::move_front(input, at, count);
     Work {
@@ -55,9 +56,9 @@ pub fn step(
 pub fn finish(input: &[u8], out: &mut [u8], table: &mut [u32], text: &mut [u8], w: Work) -> Work
     requires { ⌜ w .kept ≤ length (now input) ⌝ }
     requires { ⌜ Open (take (w .kept) (now input)) ⌝ }
-    requires { ⌜ w .used + 4100 ≤ length (now out) ⌝ }
-    requires { ⌜ length (now table) ≡ 12288 ⌝ }
-    requires { ⌜ length (now text) ≡ 4096 ⌝ }
+    requires { ⌜ w .used + longestAnswer ≤ length (now out) ⌝ }
+    requires { ⌜ length (now table) ≡ lineCells ⌝ }
+    requires { ⌜ length (now text) ≡ lineText ⌝ }
     ensures { λ r. ⌜ (r .kept ≡ 0) × (r .used ≤ length (now (out .exit))) ⌝ }
     ensures { λ r. ⌜ take (r .used) (now (out .exit)) ≡ take (w .used) (now (out .entry)) ++ output (take (w .kept) (now (input .entry))) ⌝ }
     ensures { λ r. ⌜ AllAnswered (take (w .kept) (now (input .entry))) (take (w .used) (now (out .entry))) (take (r .used) (now (out .exit))) ⌝ }

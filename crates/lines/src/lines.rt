@@ -5,10 +5,9 @@ ghost use Prim.Native.Nat.{_+_, _≤_};
 ghost use lib.ListN.{length, take, drop};
 ghost use Rattle.lines.specs.Output.{newlineAt, Open, output};
 ghost use Rattle.lines.specs.Steps.{Goes};
+ghost use Rattle.answer_line.specs.Line.{lineCells, lineText, longestAnswer};
+use answer_line::LONGEST_ANSWER;
 use answer_line::answer_line;
-
-// The longest answer: `ok`, tab, a text that fills its room, newline.
-pub const LONGEST: usize = 4_100;
 
 // Up to where the lines are answered, and how many bytes of the output wait.
 pub struct Place {
@@ -39,14 +38,14 @@ pub fn answer_lines(
     table: &mut [u32],
     text: &mut [u8],
 ) -> Place
-    requires { ⌜ used + 4100 ≤ length (now out) ⌝ }
-    requires { ⌜ length (now table) ≡ 12288 ⌝ }
-    requires { ⌜ length (now text) ≡ 4096 ⌝ }
+    requires { ⌜ used + longestAnswer ≤ length (now out) ⌝ }
+    requires { ⌜ length (now table) ≡ lineCells ⌝ }
+    requires { ⌜ length (now text) ≡ lineText ⌝ }
     ensures { λ r. ⌜ Goes (now (input .entry)) (now (out .entry)) used (now (out .exit)) (r .at) (r .used) ⌝ }
 {
     let mut at = 0;
     let mut put = used;
-    while LONGEST <= out.len() - put {
+    while LONGEST_ANSWER <= out.len() - put {
         let end = line_end(input, at);
         if input.len() <= end {
             break;
@@ -66,9 +65,9 @@ pub fn answer_rest(
     text: &mut [u8],
 ) -> usize
     requires { ⌜ Open (now rest) ⌝ }
-    requires { ⌜ used + 4100 ≤ length (now out) ⌝ }
-    requires { ⌜ length (now table) ≡ 12288 ⌝ }
-    requires { ⌜ length (now text) ≡ 4096 ⌝ }
+    requires { ⌜ used + longestAnswer ≤ length (now out) ⌝ }
+    requires { ⌜ length (now table) ≡ lineCells ⌝ }
+    requires { ⌜ length (now text) ≡ lineText ⌝ }
     ensures { λ r. ⌜ (r ≤ length (now (out .exit))) × (take r (now (out .exit)) ≡ take used (now (out .entry)) ++ output (now (rest .entry))) ⌝ }
 {
     if rest.len() == 0 {

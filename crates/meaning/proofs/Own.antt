@@ -1,7 +1,7 @@
 -- What nodes hold themselves. Assumes nothing.
 use Prim.Native.Nat.{ℕ, suc, _+_, _-_, _≤_, _<_}
-use mathlib.Core.Bool.{Bool, true, false, _&&_}
-use mathlib.Core.Path.{_≡_, refl, ap, _∙_}
+use mathlib.Core.Bool.{Bool, true, false, _&&_, and-true, and-comm, and-assoc}
+use mathlib.Core.Path.{_≡_, refl, sym, ap, _∙_}
 use mathlib.Core.List.{List, [], _∷_}
 use native.Mathlib.Omega.{arith}
 use lib.Dec.{eqb}
@@ -9,7 +9,7 @@ use lib.ListN.{length, getD, take, drop}
 use borrow.Author.Tests.{eq-eqb, ne-eqb, le-leb, lt-leb, eqb-true}
 use Rattle.node.specs.Cells.{cellOf}
 use Rattle.scan.proofs.Laws.{split, past}
-use Rattle.meaning.specs.Tree.{part, decoded, contentOf, numbersOf, bytesOf, eqList, eqOwn, eqContent}
+use Rattle.meaning.specs.Tree.{part, decoded, contentOf, shown, numbersOf, bytesOf, eqList, eqOwn, eqContent}
 use Rattle.meaning.proofs.Trees.{eqList-refl}
 
 -- the bytes of a name
@@ -68,10 +68,8 @@ module _ (t s : List ℕ) (i j : ℕ) where
     unfolding eqContent bytesOf
     content-string e = rw (← k, ne-eqb (contentOf (cellOf t i 0)) 0 z, ne-eqb (contentOf (cellOf t i 0)) 1 e)
 
-and-all : (a b : Bool) → (a && (b && true)) && true ≡ a && b
-and-all true true = refl
-and-all true false = refl
-and-all false b = refl
+last-first : (p q r s : Bool) → p && (q && (r && (s && true))) ≡ r && (s && (p && q))
+last-first p q r s = rw (and-true s) (sym (and-assoc p q (r && s)) ∙ and-comm (p && q) (r && s) ∙ and-assoc r s (p && q))
 
 -- two nodes, cell by cell
 module _ (t s : List ℕ) (i j : ℕ) where
@@ -79,27 +77,37 @@ module _ (t s : List ℕ) (i j : ℕ) where
   unfolding eqOwn
   own-0 e = rw e
 
+  abbrev shown-same : ℕ → Bool
+  shown-same m = eqb (shown (cellOf t i 0) (cellOf t i m)) (shown (cellOf t j 0) (cellOf t j m))
+
+  -- the last two numbers first, as same_own asks for them
+  numbers-turned :
+      eqList (numbersOf t i) (numbersOf t j)
+      ≡ eqb (cellOf t i 9) (cellOf t j 9) && (eqb (cellOf t i 10) (cellOf t j 10) && (shown-same 7 && shown-same 8))
+  unfolding numbersOf eqList
+  numbers-turned = last-first (shown-same 7) (shown-same 8) (eqb (cellOf t i 9) (cellOf t j 9)) (eqb (cellOf t i 10) (cellOf t j 10))
+
   module _ (e0 : eqb (cellOf t i 0) (cellOf t j 0) ≡ true) where
     pub own-9 : eqb (cellOf t i 9) (cellOf t j 9) ≡ false → eqOwn t s i j ≡ false
-    unfolding eqOwn numbersOf eqList
-    own-9 e = rw (e0, e)
+    unfolding eqOwn
+    own-9 e = rw (e0, numbers-turned, e)
 
     module _ (e9 : eqb (cellOf t i 9) (cellOf t j 9) ≡ true) where
       pub own-10 : eqb (cellOf t i 10) (cellOf t j 10) ≡ false → eqOwn t s i j ≡ false
-      unfolding eqOwn numbersOf eqList
-      own-10 e = rw (e0, e9, e)
+      unfolding eqOwn
+      own-10 e = rw (e0, numbers-turned, e9, e)
 
       module _ (e10 : eqb (cellOf t i 10) (cellOf t j 10) ≡ true) where
         kind : cellOf t i 0 ≡ cellOf t j 0
         kind = eqb-true _ _ e0
 
         own-numbers : eqb (contentOf (cellOf t i 0)) 0 ≡ true → eqOwn t s i j ≡ eqContent t s i j
-        unfolding eqOwn eqContent numbersOf bytesOf eqList
-        own-numbers z = rw (e0, e9, e10, ← kind, z) (and-all (eqb (cellOf t i 7) (cellOf t j 7)) (eqb (cellOf t i 8) (cellOf t j 8)))
+        unfolding eqOwn eqContent bytesOf eqList
+        own-numbers z = rw (e0, numbers-turned, e9, e10, ← kind, z) (and-true (eqb (cellOf t i 7) (cellOf t j 7) && eqb (cellOf t i 8) (cellOf t j 8)))
 
         own-bytes : eqb (contentOf (cellOf t i 0)) 0 ≡ false → eqOwn t s i j ≡ eqContent t s i j
-        unfolding eqOwn eqContent numbersOf eqList
-        own-bytes z = rw (e0, e9, e10, ← kind, z)
+        unfolding eqOwn eqContent
+        own-bytes z = rw (e0, numbers-turned, e9, e10, ← kind, z)
 
         pub own-content : eqOwn t s i j ≡ eqContent t s i j
         own-content = pick (eqb (contentOf (cellOf t i 0)) 0) refl

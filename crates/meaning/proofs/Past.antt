@@ -68,7 +68,7 @@ module _ (t y : List ℕ) (r : ℕ) (hr : 1 ≤ r) where
       let f : nodeIs t y (r - 1) ≡ blankTree = sym (tree-is t y r hr) ∙ e in
       let z0 : cellOf t (r - 1) 0 ≡ 0 = cc in
       let l : numbersOf t (r - 1) ≡ 0 ∷ 0 ∷ 0 ∷ 0 ∷ [] = cc in
-      let m : cellOf t (r - 1) 9 ∷ cellOf t (r - 1) 10 ∷ cellOf t (r - 1) 7 ∷ cellOf t (r - 1) 8 ∷ [] ≡ 0 ∷ 0 ∷ 0 ∷ 0 ∷ [] = rw z0 at l in
+      let m : cellOf t (r - 1) 7 ∷ cellOf t (r - 1) 8 ∷ cellOf t (r - 1) 9 ∷ cellOf t (r - 1) 10 ∷ [] ≡ 0 ∷ 0 ∷ 0 ∷ 0 ∷ [] = rw z0 at l in
       let z7 : cellOf t (r - 1) 7 ≡ 0 = cc in
       let z8 : cellOf t (r - 1) 8 ≡ 0 = cc in
       let z9 : cellOf t (r - 1) 9 ≡ 0 = cc in

@@ -1,7 +1,6 @@
 -- The laws of trees: what a reference means, and equality. Assumes nothing.
 --     tree-none, tree-is      what a reference means
 --     tree-same, tree-other   eqTree says whether trees are equal
---     at-of                   what r means to node n, where that is not below
 --     tree-kept               nodes added behind a node change nothing of what it means
 use Prim.Native.Nat.{ℕ, zero, suc, _+_, _-_, _≤_, _<_}
 use mathlib.Core.Bool.{Bool, true, false, cond, _&&_}
@@ -86,9 +85,6 @@ kid-at t y n r = pick (ℕ-discrete r 0) (decLe r n)
     pick (no z) (yes h) = let e : r ≡ (r - 1) + 1 = omega (arith, z) in
         rw (le-leb r n h) (ap (below (tree t y) none n) e ∙ below-at (tree t y) none n (r - 1) (omega (arith, z))
         ∙ sym (ap (below (tree t y) none r) e ∙ below-at (tree t y) none r (r - 1) (omega (arith, z))))
-
-pub at-of : (t y : List ℕ) (n r : ℕ) → r ≤ n → treeAt t y n r ≡ treeOf t y r
-at-of t y n r h = kid-at t y n r ∙ rw (le-leb r n h)
 
 abbrev pub nodeIs : List ℕ → List ℕ → ℕ → Tree
 nodeIs t y n = node (cellOf t n 0) (numbersOf t n) (bytesOf t y n) (treeOf t y (kidOf t n 4)) (treeOf t y (kidOf t n 5)) (treeOf t y (kidOf t n 6))

@@ -5,7 +5,9 @@ use mathlib.Core.Bool.{Bool, true, false, cond, _&&_}
 use mathlib.Core.List.{List, [], _∷_}
 use lib.Dec.{eqb, leb}
 use lib.ListN.{length, take, drop}
+use Rattle.node.specs.Cells as cells
 use Rattle.node.specs.Cells.{cellOf}
+use Rattle.node.specs.Kind.{kindNumber, Md5, NonTemplate, AsInterface, AnonymousId, ConstantString}
 use Rattle.strings.specs.Encoded.{character}
 use Rattle.scan.specs.declared.cursor.Leaf.{Leaf}
 use Rattle.scan.specs.declared.cursor.Leaf.the-variants.{Value, Bad}
@@ -32,20 +34,30 @@ decodedIn (suc k) r = onward (character r) (λ v t. v ∷ decodedIn k (drop t r)
 unfoldable pub decoded : List ℕ → List ℕ
 decoded r = decodedIn (length r) r
 
--- what a kind's first two numbers are: 1 a start and a length of bytes (Md5, NonTemplate, AsInterface, AnonymousId), 2 of an encoded string, 0 numbers
+-- what a kind's first two numbers are: 1 a start and a length of bytes, 2 of an encoded string, 0 numbers
 unfoldable pub contentOf : ℕ → ℕ
-contentOf k = cond (eqb k 6) 1 (cond (eqb k 10) 1 (cond (eqb k 11) 1 (cond (eqb k 15) 1 (cond (eqb k 27) 2 0))))
+contentOf k =
+    cond (eqb k (kindNumber Md5)) 1
+    (cond (eqb k (kindNumber NonTemplate)) 1
+    (cond (eqb k (kindNumber AsInterface)) 1
+    (cond (eqb k (kindNumber AnonymousId)) 1
+    (cond (eqb k (kindNumber ConstantString)) 2 0))))
 
+-- the first or second number of a kind; 0 for a place in the symbol, which does not show
+abbrev pub shown : ℕ → ℕ → ℕ
+shown k n = cond (eqb (contentOf k) 0) n 0
+
+-- p, q, r and s
 unfoldable pub numbersOf : List ℕ → ℕ → List ℕ
-numbersOf t n = cellOf t n 9 ∷ cellOf t n 10 ∷ cond (eqb (contentOf (cellOf t n 0)) 0) (cellOf t n 7 ∷ cellOf t n 8 ∷ []) []
+numbersOf t n = shown (cellOf t n cells.KIND) (cellOf t n cells.P) ∷ shown (cellOf t n cells.KIND) (cellOf t n cells.Q) ∷ cellOf t n cells.R ∷ cellOf t n cells.S ∷ []
 
 unfoldable pub bytesOf : List ℕ → List ℕ → ℕ → List ℕ
 bytesOf t sym n =
-    let bytes = part sym (cellOf t n 7) (cellOf t n 8) in
-    cond (eqb (contentOf (cellOf t n 0)) 0) [] (cond (eqb (contentOf (cellOf t n 0)) 1) bytes (decoded bytes))
+    let bytes = part sym (cellOf t n cells.P) (cellOf t n cells.Q) in
+    cond (eqb (contentOf (cellOf t n cells.KIND)) 0) [] (cond (eqb (contentOf (cellOf t n cells.KIND)) 1) bytes (decoded bytes))
 
 unfoldable pub tree : List ℕ → List ℕ → (ℕ → Tree) → ℕ → Tree
-tree t sym kids n = node (cellOf t n 0) (numbersOf t n) (bytesOf t sym n) (kids (cellOf t n 4)) (kids (cellOf t n 5)) (kids (cellOf t n 6))
+tree t sym kids n = node (cellOf t n cells.KIND) (numbersOf t n) (bytesOf t sym n) (kids (cellOf t n cells.A)) (kids (cellOf t n cells.B)) (kids (cellOf t n cells.C))
 
 -- what the reference r means to node n: a node sees only what stands before it
 unfoldable pub treeAt : List ℕ → List ℕ → ℕ → ℕ → Tree
@@ -78,10 +90,10 @@ eqTree (node k x s a b c) (node l y u d e f) =
 
 -- nodes i and j, without what they refer to
 unfoldable pub eqOwn : List ℕ → List ℕ → ℕ → ℕ → Bool
-eqOwn t sym i j = eqb (cellOf t i 0) (cellOf t j 0) && (eqList (numbersOf t i) (numbersOf t j) && eqList (bytesOf t sym i) (bytesOf t sym j))
+eqOwn t sym i j = eqb (cellOf t i cells.KIND) (cellOf t j cells.KIND) && (eqList (numbersOf t i) (numbersOf t j) && eqList (bytesOf t sym i) (bytesOf t sym j))
 
 -- what the first two numbers of nodes i and j say, where both are of one kind
 unfoldable pub eqContent : List ℕ → List ℕ → ℕ → ℕ → Bool
 eqContent t sym i j =
-    cond (eqb (contentOf (cellOf t i 0)) 0) (eqb (cellOf t i 7) (cellOf t j 7) && eqb (cellOf t i 8) (cellOf t j 8))
+    cond (eqb (contentOf (cellOf t i cells.KIND)) 0) (eqb (cellOf t i cells.P) (cellOf t j cells.P) && eqb (cellOf t i cells.Q) (cellOf t j cells.Q))
     (eqList (bytesOf t sym i) (bytesOf t sym j))

@@ -4,17 +4,20 @@ ghost use Prim.Native.Nat.{ℕ, _≤_, _<_, _^_};
 ghost use lib.Dec.{eqb};
 ghost use mathlib.Core.Bool.{Bool, true, false, _&&_};
 ghost use mathlib.Core.List.{List};
-ghost use Rattle.node.specs.Cells.{nodes, cellOf};
+ghost use Rattle.node.specs.Cells as cells;
+ghost use Rattle.node.specs.Cells.{nodes, cellOf, KIND};
 ghost use Rattle.meaning.specs.Tree.{part, decoded, contentOf, treeOf, kidOf, blankTree, eqList, eqTree, eqContent, eqOwn};
 ghost use Rattle.meaning.specs.Links.{Links, Judged};
 
 pub mod links;
 
-use crate::links::NOTES;
+use crate::links::LINKS;
 use crate::links::find;
 use crate::links::link;
 use crate::links::note;
 use crate::links::noted;
+use node::cells;
+use node::kinds;
 use scan::cursor::Leaf;
 use strings::encoded::read_character;
 
@@ -90,17 +93,23 @@ fn same_string(a: &[u8], b: &[u8]) -> bool
     }
 }
 
-// What the first two numbers of a kind are: 1 bytes of the symbol, 2 an encoded string, 0 numbers.
-fn content(kind: usize) -> usize
+// What the first two numbers of a kind are: numbers, or a start and a length in the symbol, of bytes or of an encoded string.
+const NUMBERS: usize = 0;
+
+const BYTES: usize = 1;
+
+const ENCODED: usize = 2;
+
+fn content(kind: u32) -> usize
     ensures { λ r. ⌜ r ≡ contentOf kind ⌝ }
 {
     match kind {
-        6 => 1,
-        10 => 1,
-        11 => 1,
-        15 => 1,
-        27 => 2,
-        _ => 0,
+        kinds::MD5 => BYTES,
+        kinds::NON_TEMPLATE => BYTES,
+        kinds::AS_INTERFACE => BYTES,
+        kinds::ANONYMOUS_ID => BYTES,
+        kinds::CONSTANT_STRING => ENCODED,
+        _ => NUMBERS,
     }
 }
 
@@ -111,6 +120,14 @@ fn at(table: &[u32], n: usize, c: usize) -> usize
 {
     let i = n * node::CELLS + c;
     table[i] as usize
+}
+
+// The kind of a node that the table has.
+fn kind_at(table: &[u32], n: usize) -> u32
+    requires { ⌜ n < nodes (now table) ⌝ }
+    ensures { λ r. ⌜ r ≡ cellOf (now (table .entry)) n KIND ⌝ }
+{
+    at(table, n, cells::KIND) as u32
 }
 
 // What `kid` is, of a node that the table has.
@@ -125,10 +142,10 @@ fn kid_at(table: &[u32], n: usize, c: usize) -> usize
 // The bytes of the symbol that node n names.
 fn bytes_at<'a>(table: &[u32], symbol: &'a [u8], n: usize) -> &'a [u8]
     requires { ⌜ n < nodes (now table) ⌝ }
-    ensures { λ r. ⌜ now r ≡ part (now (symbol .entry)) (cellOf (now (table .entry)) n 7) (cellOf (now (table .entry)) n 8) ⌝ }
+    ensures { λ r. ⌜ now r ≡ part (now (symbol .entry)) (cellOf (now (table .entry)) n cells.P) (cellOf (now (table .entry)) n cells.Q) ⌝ }
 {
-    let s = at(table, n, 7);
-    let e = s + at(table, n, 8);
+    let s = at(table, n, cells::P);
+    let e = s + at(table, n, cells::Q);
     if e <= symbol.len() {
         return &symbol[s..e];
     }
@@ -144,19 +161,19 @@ fn same_cell(table: &[u32], i: usize, j: usize, c: usize) -> bool
 
 // Nodes i and j of one kind: their bytes, or the numbers in their place.
 fn same_content(table: &[u32], symbol: &[u8], i: usize, j: usize) -> bool
-    requires { ⌜ (i < nodes (now table)) × (j < nodes (now table)) × (cellOf (now table) i 0 ≡ cellOf (now table) j 0) ⌝ }
+    requires { ⌜ (i < nodes (now table)) × (j < nodes (now table)) × (cellOf (now table) i KIND ≡ cellOf (now table) j KIND) ⌝ }
     ensures { λ x. ⌜ x ≡ eqContent (now (table .entry)) (now (symbol .entry)) i j ⌝ }
 {
-    let what = content(at(table, i, 0));
-    if what == 0 {
-        if same_cell(table, i, j, 7) {
-            return same_cell(table, i, j, 8);
+    let what = content(kind_at(table, i));
+    if what == NUMBERS {
+        if same_cell(table, i, j, cells::P) {
+            return same_cell(table, i, j, cells::Q);
         }
         return false;
     }
     let a = bytes_at(table, symbol, i);
     let b = bytes_at(table, symbol, j);
-    if what == 1 {
+    if what == BYTES {
         return same_bytes(a, b);
     }
     same_string(a, b)
@@ -167,9 +184,9 @@ fn same_own(table: &[u32], symbol: &[u8], i: usize, j: usize) -> bool
     requires { ⌜ (i < nodes (now table)) × (j < nodes (now table)) ⌝ }
     ensures { λ x. ⌜ x ≡ eqOwn (now (table .entry)) (now (symbol .entry)) i j ⌝ }
 {
-    if same_cell(table, i, j, 0) {
-        if same_cell(table, i, j, 9) {
-            if same_cell(table, i, j, 10) {
+    if same_cell(table, i, j, cells::KIND) {
+        if same_cell(table, i, j, cells::R) {
+            if same_cell(table, i, j, cells::S) {
                 return same_content(table, symbol, i, j);
             }
         }
@@ -182,14 +199,14 @@ fn alike(table: &[u32], symbol: &[u8], i: usize, j: usize) -> bool
     requires { ⌜ (i < nodes (now table)) × (j < nodes (now table)) ⌝ }
     ensures { λ x. ⌜ (x ≡ false → eqOwn (now (table .entry)) (now (symbol .entry)) i j ≡ false) ⌝ }
 {
-    if !same_cell(table, i, j, 0) {
+    if !same_cell(table, i, j, cells::KIND) {
         return false;
     }
-    let what = content(at(table, i, 0));
-    if what == 0 {
-        return same_cell(table, i, j, 7);
+    let what = content(kind_at(table, i));
+    if what == NUMBERS {
+        return same_cell(table, i, j, cells::P);
     }
-    if what == 1 {
+    if what == BYTES {
         let a = bytes_at(table, symbol, i);
         let b = bytes_at(table, symbol, j);
         return a.len() == b.len();
@@ -213,13 +230,13 @@ fn twins(table: &[u32], r: usize, q: usize) -> bool
     }
     let i = r - 1;
     let j = q - 1;
-    if kid_at(table, i, 4) != kid_at(table, j, 4) {
+    if kid_at(table, i, cells::A) != kid_at(table, j, cells::A) {
         return false;
     }
-    if kid_at(table, i, 5) != kid_at(table, j, 5) {
+    if kid_at(table, i, cells::B) != kid_at(table, j, cells::B) {
         return false;
     }
-    if kid_at(table, i, 6) != kid_at(table, j, 6) {
+    if kid_at(table, i, cells::C) != kid_at(table, j, cells::C) {
         return false;
     }
     same_numbers(table, i, j)
@@ -230,19 +247,19 @@ fn same_numbers(table: &[u32], i: usize, j: usize) -> bool
     requires { ⌜ (i < nodes (now table)) × (j < nodes (now table)) ⌝ }
     ensures { λ x. ⌜ ((s : List ℕ) → x ≡ true → eqOwn (now (table .entry)) s i j ≡ true) ⌝ }
 {
-    if !same_cell(table, i, j, 0) {
+    if !same_cell(table, i, j, cells::KIND) {
         return false;
     }
-    if !same_cell(table, i, j, 7) {
+    if !same_cell(table, i, j, cells::P) {
         return false;
     }
-    if !same_cell(table, i, j, 8) {
+    if !same_cell(table, i, j, cells::Q) {
         return false;
     }
-    if !same_cell(table, i, j, 9) {
+    if !same_cell(table, i, j, cells::R) {
         return false;
     }
-    same_cell(table, i, j, 10)
+    same_cell(table, i, j, cells::S)
 }
 
 // Whether r and q are told to mean the same by their cells, or by links.
@@ -267,8 +284,8 @@ fn join(table: &[u32], symbol: &[u8], links: &mut [u16], r: usize, q: usize)
         let i = x - 1;
         let j = y - 1;
         link(links, x, y);
-        x = find(links, kid_at(table, i, 4));
-        y = find(links, kid_at(table, j, 4));
+        x = find(links, kid_at(table, i, cells::A));
+        y = find(links, kid_at(table, j, cells::A));
     }
 }
 
@@ -302,10 +319,10 @@ fn linked(table: &[u32], symbol: &[u8], links: &mut [u16], r: usize, q: usize) -
 // The second references of nodes i and j: entries of lists, mostly, of which most are told at once.
 fn second(table: &[u32], symbol: &[u8], links: &mut [u16], i: usize, j: usize) -> bool
     requires { ⌜ (i < nodes (now table)) × (j < nodes (now table)) × Links (treeOf (now table) (now symbol)) (now links) ⌝ }
-    ensures { λ x. ⌜ (x ≡ eqTree (treeOf (now (table .entry)) (now (symbol .entry)) (kidOf (now (table .entry)) i 5)) (treeOf (now (table .entry)) (now (symbol .entry)) (kidOf (now (table .entry)) j 5))) × Links (treeOf (now (table .entry)) (now (symbol .entry))) (now (links .exit)) ⌝ }
+    ensures { λ x. ⌜ (x ≡ eqTree (treeOf (now (table .entry)) (now (symbol .entry)) (kidOf (now (table .entry)) i cells.B)) (treeOf (now (table .entry)) (now (symbol .entry)) (kidOf (now (table .entry)) j cells.B))) × Links (treeOf (now (table .entry)) (now (symbol .entry))) (now (links .exit)) ⌝ }
 {
-    let r = kid_at(table, i, 5);
-    let q = kid_at(table, j, 5);
+    let r = kid_at(table, i, cells::B);
+    let q = kid_at(table, j, cells::B);
     if met(table, symbol, links, r, q) {
         return true;
     }
@@ -315,10 +332,10 @@ fn second(table: &[u32], symbol: &[u8], links: &mut [u16], i: usize, j: usize) -
 // The third references of nodes i and j: few kinds have one.
 fn third(table: &[u32], symbol: &[u8], links: &mut [u16], i: usize, j: usize) -> bool
     requires { ⌜ (i < nodes (now table)) × (j < nodes (now table)) × Links (treeOf (now table) (now symbol)) (now links) ⌝ }
-    ensures { λ x. ⌜ (x ≡ eqTree (treeOf (now (table .entry)) (now (symbol .entry)) (kidOf (now (table .entry)) i 6)) (treeOf (now (table .entry)) (now (symbol .entry)) (kidOf (now (table .entry)) j 6))) × Links (treeOf (now (table .entry)) (now (symbol .entry))) (now (links .exit)) ⌝ }
+    ensures { λ x. ⌜ (x ≡ eqTree (treeOf (now (table .entry)) (now (symbol .entry)) (kidOf (now (table .entry)) i cells.C)) (treeOf (now (table .entry)) (now (symbol .entry)) (kidOf (now (table .entry)) j cells.C))) × Links (treeOf (now (table .entry)) (now (symbol .entry))) (now (links .exit)) ⌝ }
 {
-    let r = kid_at(table, i, 6);
-    let q = kid_at(table, j, 6);
+    let r = kid_at(table, i, cells::C);
+    let q = kid_at(table, j, cells::C);
     if r == q {
         return true;
     }
@@ -354,8 +371,8 @@ fn walk(table: &[u32], symbol: &[u8], links: &mut [u16], r: usize, q: usize) -> 
         if !third(table, symbol, links, i, j) {
             return false;
         }
-        let a = kid_at(table, i, 4);
-        let b = kid_at(table, j, 4);
+        let a = kid_at(table, i, cells::A);
+        let b = kid_at(table, j, cells::A);
         left -= 1;
         if left == 0 {
             return linked(table, symbol, links, a, b);
@@ -373,17 +390,17 @@ pub const VISITS: usize = 34;
 pub const SPENT: usize = 1;
 
 // So many bytes cost as much as a visit.
-const BYTES: usize = 16;
+const BYTES_A_VISIT: usize = 16;
 
 // What a visit to node n takes from the budget: names may be long, and are compared byte by byte.
 fn cost_of(table: &[u32], n: usize) -> usize
     requires { ⌜ n < nodes (now table) ⌝ }
     ensures { λ r. ⌜ r < 2 ^ 32 ⌝ }
 {
-    if content(at(table, n, 0)) == 0 {
+    if content(kind_at(table, n)) == NUMBERS {
         return 1;
     }
-    at(table, n, 8) / BYTES + 1
+    at(table, n, cells::Q) / BYTES_A_VISIT + 1
 }
 
 // The references in cell c of nodes i and j, after others with this answer.
@@ -423,11 +440,11 @@ fn plain(table: &[u32], symbol: &[u8], r: usize, q: usize, left: usize) -> usize
         if left < cost + 2 {
             return SPENT;
         }
-        let x = kid_at(table, i, 4);
-        let y = kid_at(table, j, 4);
+        let x = kid_at(table, i, cells::A);
+        let y = kid_at(table, j, cells::A);
         let a = plain(table, symbol, x, y, left - cost);
-        let b = plain_kid(table, symbol, i, j, 5, a);
-        return plain_kid(table, symbol, i, j, 6, b);
+        let b = plain_kid(table, symbol, i, j, cells::B, a);
+        return plain_kid(table, symbol, i, j, cells::C, b);
     }
     0
 }
@@ -438,20 +455,20 @@ fn blank(table: &[u32], r: usize) -> bool
     ensures { λ x. ⌜ ((s : List ℕ) → x ≡ eqTree (treeOf (now (table .entry)) s r) blankTree) ⌝ }
 {
     let n = r - 1;
-    let numbers = node::cell(table, n, 7)
-        + node::cell(table, n, 8)
-        + node::cell(table, n, 9)
-        + node::cell(table, n, 10);
-    if node::cell(table, n, 0) + numbers != 0 {
+    let numbers = node::cell(table, n, cells::P)
+        + node::cell(table, n, cells::Q)
+        + node::cell(table, n, cells::R)
+        + node::cell(table, n, cells::S);
+    if node::cell(table, n, cells::KIND) + numbers != 0 {
         return false;
     }
-    if kid(table, n, 4) != 0 {
+    if kid(table, n, cells::A) != 0 {
         return false;
     }
-    if kid(table, n, 5) != 0 {
+    if kid(table, n, cells::B) != 0 {
         return false;
     }
-    if kid(table, n, 6) != 0 {
+    if kid(table, n, cells::C) != 0 {
         return false;
     }
     true
@@ -515,7 +532,7 @@ pub fn same(table: &[u32], symbol: &[u8], r: usize, q: usize) -> bool
 {
     let v = judge(table, symbol, r, q, VISITS);
     if v == SPENT {
-        let mut links = [0u16; NOTES];
+        let mut links = [0u16; LINKS];
         return same_linked(table, symbol, &mut links, r, q);
     }
     v != 0

@@ -1,12 +1,15 @@
 // Links between references of equal meaning, and notes of references that differ: a number for each reference.
 ghost use mathlib.Core.Path.{_≡_};
-ghost use Prim.Native.Nat.{ℕ, _≤_, _<_};
+ghost use Prim.Native.Nat.{_≤_, _<_};
 ghost use lib.Dec.{eqb};
 ghost use Rattle.meaning.specs.Links.{linkOf, noteOf, Falls, Led, Joins, Parts};
 
 // A number below is a link; one from here on is a note, and so much above the reference that it names.
 // So as many can be linked as a symbol of 16,384 bytes may count, and one; those past it are compared too.
-pub const NOTES: usize = 32768;
+pub const NOTES: usize = 32_768;
+
+// As many references can be linked.
+pub const LINKS: usize = NOTES;
 
 // The link of p, 0 where it has none.
 fn next(links: &[u16], p: usize) -> usize

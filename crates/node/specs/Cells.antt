@@ -1,11 +1,51 @@
 -- A node is twelve cells of the table. Assumes nothing: these are definitions.
---     0 kind, 1 height, 2 and 3 kept for the bytes it was read from, 4 to 6 references (a node's number and one, 0 for none), 7 to 10 numbers, 11 zero
 use Prim.Native.Nat.{ℕ, _+_, _*_, _-_, _/_}
 use mathlib.Core.List.{List, [], _∷_, _++_}
 use lib.ListN.{length, getD, take, drop}
 use lib.Dec.{ltb, eqb}
 use mathlib.Core.Bool.{cond}
 use Rattle.node.specs.declared.Node.{Node}
+
+-- its kind and its height
+abbrev pub KIND : ℕ
+KIND = 0
+
+abbrev pub HEIGHT : ℕ
+HEIGHT = 1
+
+-- kept for the bytes that it was read from, and 0
+abbrev pub FROM : ℕ
+FROM = 2
+
+abbrev pub TO : ℕ
+TO = 3
+
+-- three references: a node's number and one, 0 for none
+abbrev pub A : ℕ
+A = 4
+
+abbrev pub B : ℕ
+B = 5
+
+abbrev pub C : ℕ
+C = 6
+
+-- four numbers
+abbrev pub P : ℕ
+P = 7
+
+abbrev pub Q : ℕ
+Q = 8
+
+abbrev pub R : ℕ
+R = 9
+
+abbrev pub S : ℕ
+S = 10
+
+-- always 0
+abbrev pub LAST : ℕ
+LAST = 11
 
 -- how many whole nodes there is room for; a shorter tail is neither read nor written
 abbrev pub nodes : List ℕ → ℕ
@@ -24,4 +64,4 @@ stored t n x = cond (ltb n (nodes t)) (take (n * 12) t ++ cells x ++ drop (n * 1
 
 -- the height of what r names
 unfoldable pub heightAt : List ℕ → ℕ → ℕ
-heightAt t r = cond (eqb r 0) 0 (cellOf t (r - 1) 1)
+heightAt t r = cond (eqb r 0) 0 (cellOf t (r - 1) HEIGHT)

@@ -1,13 +1,32 @@
 -- The kinds of nodes by name; docs/NODES.md has the same numbers. Assumes nothing: these are definitions.
 use Prim.Native.Nat.{ℕ, _+_}
+use mathlib.Core.Bool.{Bool}
+use mathlib.Core.List.{List, [], _∷_, map}
+use lib.Dec.{leb}
 
 pub data Kind : Type 0 where
   NamePlace TypePlace ParseResult Symbol OuterSymbol : Kind
   Md5 Operator RttiTypeDescriptor RttiBaseClassDescriptor NonTemplate AsInterface Template Discriminator ParsedName AnonymousId Anonymous : Kind
   None MemberFunction MemberFunctionPointer NonMemberFunction CXXVBTable CXXVFTable VCallThunk TemplateParameterWithIndex ThreadSafeStaticGuard : Kind
   Constant ConstantString Ptr Ref RValueRef Array Var Alias Struct Union Class Enum VarArgs EmptyParameterPack Nullptr RTTIType : Kind
-  -- a basic type, by its place among them: Void 0 to Ldouble 21
+  -- a basic type, by its place among them
   Basic : ℕ → Kind
+
+abbrev pub Void : Kind
+Void = Basic 0
+
+-- Int64 to Uint128 have two spellings
+abbrev pub Int64 : Kind
+Int64 = Basic 11
+
+abbrev pub Uint128 : Kind
+Uint128 = Basic 14
+
+abbrev pub lastBasic : ℕ
+lastBasic = 21
+
+abbrev pub Ldouble : Kind
+Ldouble = Basic lastBasic
 
 abbrev pub kindNumber : Kind → ℕ
 kindNumber NamePlace = 1
@@ -52,3 +71,20 @@ kindNumber VarArgs = 60
 kindNumber EmptyParameterPack = 61
 kindNumber Nullptr = 62
 kindNumber RTTIType = 63
+
+-- a place in a list, which adds no height
+abbrev pub isPlace : ℕ → Bool
+isPlace kind = leb kind (kindNumber TypePlace)
+
+-- the kinds that code calls by name
+abbrev pub named : List Kind
+named =
+    NamePlace ∷ TypePlace ∷ ParseResult ∷ Symbol ∷ OuterSymbol ∷ Md5 ∷ Operator ∷ RttiTypeDescriptor ∷
+    RttiBaseClassDescriptor ∷ NonTemplate ∷ AsInterface ∷ Template ∷ Discriminator ∷ ParsedName ∷ AnonymousId ∷
+    Anonymous ∷ None ∷ MemberFunction ∷ MemberFunctionPointer ∷ NonMemberFunction ∷ CXXVBTable ∷ CXXVFTable ∷
+    VCallThunk ∷ TemplateParameterWithIndex ∷ ThreadSafeStaticGuard ∷ Constant ∷ ConstantString ∷ Ptr ∷ Ref ∷
+    RValueRef ∷ Array ∷ Var ∷ Alias ∷ Struct ∷ Union ∷ Class ∷ Enum ∷ Void ∷ Int64 ∷ Uint128 ∷
+    Ldouble ∷ VarArgs ∷ EmptyParameterPack ∷ Nullptr ∷ RTTIType ∷ []
+
+abbrev pub namedNumbers : List ℕ
+namedNumbers = map kindNumber named

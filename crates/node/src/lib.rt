@@ -1,8 +1,10 @@
 // The node table: a node is twelve cells. Writing a node, reading a cell.
 ghost use mathlib.Core.Path.{_≡_};
-ghost use Prim.Native.Nat.{_≤_, _<_, _+_, _*_, _^_, max};
-ghost use lib.ListN.{length};
-ghost use Rattle.node.specs.Cells.{nodes, cellOf, stored, heightAt};
+ghost use Prim.Native.Nat.{_<_, _+_, _*_, _^_};
+ghost use Rattle.node.specs.Cells.{nodes, cellOf, stored, heightAt, KIND};
+
+pub mod cells;
+pub mod kinds;
 
 pub const CELLS: usize = 12;
 
@@ -72,6 +74,13 @@ pub fn cell(table: &[u32], n: usize, j: usize) -> usize
     table[i] as usize
 }
 
+// The kind of node n, or 0 where there is none.
+pub fn kind(table: &[u32], n: usize) -> u32
+    ensures { λ r. ⌜ r ≡ cellOf (now (table .entry)) n KIND ⌝ }
+{
+    cell(table, n, cells::KIND) as u32
+}
+
 // The height of what reference r names; 0 where it names nothing.
 pub fn height(table: &[u32], r: usize) -> usize
     ensures { λ h. ⌜ (h ≡ heightAt (now (table .entry)) r) × (h < 2 ^ 32) ⌝ }
@@ -79,5 +88,5 @@ pub fn height(table: &[u32], r: usize) -> usize
     if r == 0 {
         return 0;
     }
-    cell(table, r - 1, 1)
+    cell(table, r - 1, cells::HEIGHT)
 }

@@ -3,80 +3,81 @@
 ghost use Prim.Native.Nat.{_<_};
 use libc::STDOUT_FILENO;
 use node::Node;
+use node::kinds;
 
 const COUNT: usize = 69;
 
 // kind, height, a, b, c, p, q, r, s
-const NODES: [[u32; 9]; 69] = [
-    [10, 1, 0, 0, 0, 1, 1, 0, 0], // 0 NonTemplate
-    [12, 2, 1, 0, 0, 0, 0, 0, 0], // 1 Template
-    [11, 1, 0, 0, 0, 1, 1, 0, 0], // 2 AsInterface
-    [15, 1, 0, 0, 0, 1, 1, 0, 0], // 3 AnonymousId
-    [16, 1, 0, 0, 0, 0, 0, 0, 0], // 4 Anonymous
-    [13, 1, 0, 0, 0, 7, 0, 0, 0], // 5 Discriminator
-    [6, 1, 0, 0, 0, 0, 2, 0, 0], // 6 Md5
-    [7, 1, 0, 0, 0, 74, 0, 0, 0], // 7 Operator
-    [45, 1, 0, 0, 0, 0, 0, 0, 0], // 8 Int
-    [8, 2, 9, 0, 0, 1, 0, 0, 0], // 9 RttiTypeDescriptor
-    [9, 1, 0, 0, 0, 1, 2, 3, 4], // 10 RttiBaseClassDescriptor
-    [1, 1, 0, 1, 0, 0, 0, 0, 0], // 11 NamePlace
-    [1, 1, 12, 3, 0, 0, 0, 0, 0], // 12 NamePlace
-    [4, 3, 2, 13, 0, 0, 0, 0, 0], // 13 Symbol
-    [4, 2, 8, 0, 0, 0, 0, 0, 0], // 14 Symbol
-    [5, 2, 7, 0, 0, 0, 0, 0, 0], // 15 OuterSymbol
-    [17, 1, 0, 0, 0, 0, 0, 0, 0], // 16 None
-    [3, 3, 16, 17, 0, 0, 0, 0, 0], // 17 ParseResult
-    [14, 4, 18, 0, 0, 0, 0, 0, 0], // 18 ParsedName
-    [1, 4, 13, 19, 0, 0, 0, 0, 0], // 19 NamePlace
-    [2, 1, 0, 9, 0, 0, 0, 0, 0], // 20 TypePlace
-    [60, 1, 0, 0, 0, 0, 0, 0, 0], // 21 VarArgs
-    [2, 1, 21, 22, 0, 0, 0, 0, 0], // 22 TypePlace
-    [20, 2, 9, 23, 0, 3, 4, 0, 0], // 23 NonMemberFunction
-    [18, 2, 17, 23, 0, 511, 4, 255, 0], // 24 MemberFunction
-    [19, 4, 9, 23, 14, 64, 2, 1, 0], // 25 MemberFunctionPointer
-    [21, 5, 20, 0, 0, 1, 0, 0, 0], // 26 CXXVBTable
-    [22, 1, 0, 0, 0, 0, 0, 0, 0], // 27 CXXVFTable
-    [23, 1, 0, 0, 0, 4294967295, 1, 0, 0], // 28 VCallThunk
-    [24, 1, 0, 0, 0, 1, 0, 0, 0], // 29 TemplateParameterWithIndex
-    [25, 1, 0, 0, 0, 2, 0, 0, 0], // 30 ThreadSafeStaticGuard
-    [26, 1, 0, 0, 0, 3, 0, 0, 0], // 31 Constant
-    [27, 1, 0, 0, 0, 0, 3, 0, 0], // 32 ConstantString
-    [28, 2, 9, 0, 0, 1, 0, 0, 0], // 33 Ptr
-    [29, 5, 26, 0, 0, 2, 0, 0, 0], // 34 Ref
-    [30, 3, 24, 0, 0, 0, 0, 0, 0], // 35 RValueRef
-    [31, 2, 9, 0, 0, 1, 20, 0, 0], // 36 Array
-    [32, 3, 37, 0, 0, 0, 4, 0, 0], // 37 Var
-    [33, 4, 14, 0, 0, 1, 0, 0, 0], // 38 Alias
-    [34, 4, 14, 0, 0, 1, 0, 0, 0], // 39 Struct
-    [35, 4, 14, 0, 0, 1, 0, 0, 0], // 40 Union
-    [36, 4, 14, 0, 0, 1, 0, 0, 0], // 41 Class
-    [37, 4, 14, 0, 0, 1, 0, 0, 0], // 42 Enum
-    [38, 1, 0, 0, 0, 1, 0, 0, 0], // 43 Void
-    [39, 1, 0, 0, 0, 1, 0, 0, 0], // 44 Bool
-    [40, 1, 0, 0, 0, 1, 0, 0, 0], // 45 Char
-    [41, 1, 0, 0, 0, 1, 0, 0, 0], // 46 Schar
-    [42, 1, 0, 0, 0, 1, 0, 0, 0], // 47 Uchar
-    [43, 1, 0, 0, 0, 1, 0, 0, 0], // 48 Short
-    [44, 1, 0, 0, 0, 1, 0, 0, 0], // 49 Ushort
-    [45, 1, 0, 0, 0, 1, 0, 0, 0], // 50 Int
-    [46, 1, 0, 0, 0, 1, 0, 0, 0], // 51 Uint
-    [47, 1, 0, 0, 0, 1, 0, 0, 0], // 52 Long
-    [48, 1, 0, 0, 0, 1, 0, 0, 0], // 53 Ulong
-    [49, 1, 0, 0, 0, 1, 0, 0, 0], // 54 Int64
-    [50, 1, 0, 0, 0, 1, 0, 0, 0], // 55 Uint64
-    [51, 1, 0, 0, 0, 1, 0, 0, 0], // 56 Int128
-    [52, 1, 0, 0, 0, 1, 0, 0, 0], // 57 Uint128
-    [53, 1, 0, 0, 0, 1, 0, 0, 0], // 58 Wchar
-    [54, 1, 0, 0, 0, 1, 0, 0, 0], // 59 Char8
-    [55, 1, 0, 0, 0, 1, 0, 0, 0], // 60 Char16
-    [56, 1, 0, 0, 0, 1, 0, 0, 0], // 61 Char32
-    [57, 1, 0, 0, 0, 1, 0, 0, 0], // 62 Float
-    [58, 1, 0, 0, 0, 1, 0, 0, 0], // 63 Double
-    [59, 1, 0, 0, 0, 1, 0, 0, 0], // 64 Ldouble
-    [61, 1, 0, 0, 0, 0, 0, 0, 0], // 65 EmptyParameterPack
-    [62, 1, 0, 0, 0, 0, 0, 0, 0], // 66 Nullptr
-    [63, 1, 0, 0, 0, 0, 0, 0, 0], // 67 RTTIType
-    [3, 4, 14, 38, 0, 5, 0, 0, 0], // 68 ParseResult
+const NODES: [[u32; 9]; COUNT] = [
+    [kinds::NON_TEMPLATE, 1, 0, 0, 0, 1, 1, 0, 0], // 0
+    [kinds::TEMPLATE, 2, 1, 0, 0, 0, 0, 0, 0], // 1
+    [kinds::AS_INTERFACE, 1, 0, 0, 0, 1, 1, 0, 0], // 2
+    [kinds::ANONYMOUS_ID, 1, 0, 0, 0, 1, 1, 0, 0], // 3
+    [kinds::ANONYMOUS, 1, 0, 0, 0, 0, 0, 0, 0], // 4
+    [kinds::DISCRIMINATOR, 1, 0, 0, 0, 7, 0, 0, 0], // 5
+    [kinds::MD5, 1, 0, 0, 0, 0, 2, 0, 0], // 6
+    [kinds::OPERATOR, 1, 0, 0, 0, 74, 0, 0, 0], // 7
+    [kinds::VOID + 7, 1, 0, 0, 0, 0, 0, 0, 0], // 8 Int
+    [kinds::RTTI_TYPE_DESCRIPTOR, 2, 9, 0, 0, 1, 0, 0, 0], // 9
+    [kinds::RTTI_BASE_CLASS_DESCRIPTOR, 1, 0, 0, 0, 1, 2, 3, 4], // 10
+    [kinds::NAME_PLACE, 1, 0, 1, 0, 0, 0, 0, 0], // 11
+    [kinds::NAME_PLACE, 1, 12, 3, 0, 0, 0, 0, 0], // 12
+    [kinds::SYMBOL, 3, 2, 13, 0, 0, 0, 0, 0], // 13
+    [kinds::SYMBOL, 2, 8, 0, 0, 0, 0, 0, 0], // 14
+    [kinds::OUTER_SYMBOL, 2, 7, 0, 0, 0, 0, 0, 0], // 15
+    [kinds::NONE, 1, 0, 0, 0, 0, 0, 0, 0], // 16
+    [kinds::PARSE_RESULT, 3, 16, 17, 0, 0, 0, 0, 0], // 17
+    [kinds::PARSED_NAME, 4, 18, 0, 0, 0, 0, 0, 0], // 18
+    [kinds::NAME_PLACE, 4, 13, 19, 0, 0, 0, 0, 0], // 19
+    [kinds::TYPE_PLACE, 1, 0, 9, 0, 0, 0, 0, 0], // 20
+    [kinds::VAR_ARGS, 1, 0, 0, 0, 0, 0, 0, 0], // 21
+    [kinds::TYPE_PLACE, 1, 21, 22, 0, 0, 0, 0, 0], // 22
+    [kinds::NON_MEMBER_FUNCTION, 2, 9, 23, 0, 3, 4, 0, 0], // 23
+    [kinds::MEMBER_FUNCTION, 2, 17, 23, 0, 511, 4, 255, 0], // 24
+    [kinds::MEMBER_FUNCTION_POINTER, 4, 9, 23, 14, 64, 2, 1, 0], // 25
+    [kinds::VBTABLE, 5, 20, 0, 0, 1, 0, 0, 0], // 26
+    [kinds::VFTABLE, 1, 0, 0, 0, 0, 0, 0, 0], // 27
+    [kinds::VCALL_THUNK, 1, 0, 0, 0, 4294967295, 1, 0, 0], // 28
+    [kinds::TEMPLATE_PARAMETER_WITH_INDEX, 1, 0, 0, 0, 1, 0, 0, 0], // 29
+    [kinds::THREAD_SAFE_STATIC_GUARD, 1, 0, 0, 0, 2, 0, 0, 0], // 30
+    [kinds::CONSTANT, 1, 0, 0, 0, 3, 0, 0, 0], // 31
+    [kinds::CONSTANT_STRING, 1, 0, 0, 0, 0, 3, 0, 0], // 32
+    [kinds::PTR, 2, 9, 0, 0, 1, 0, 0, 0], // 33
+    [kinds::REF, 5, 26, 0, 0, 2, 0, 0, 0], // 34
+    [kinds::RVALUE_REF, 3, 24, 0, 0, 0, 0, 0, 0], // 35
+    [kinds::ARRAY, 2, 9, 0, 0, 1, 20, 0, 0], // 36
+    [kinds::VAR, 3, 37, 0, 0, 0, 4, 0, 0], // 37
+    [kinds::ALIAS, 4, 14, 0, 0, 1, 0, 0, 0], // 38
+    [kinds::STRUCT, 4, 14, 0, 0, 1, 0, 0, 0], // 39
+    [kinds::UNION, 4, 14, 0, 0, 1, 0, 0, 0], // 40
+    [kinds::CLASS, 4, 14, 0, 0, 1, 0, 0, 0], // 41
+    [kinds::ENUM, 4, 14, 0, 0, 1, 0, 0, 0], // 42
+    [kinds::VOID, 1, 0, 0, 0, 1, 0, 0, 0], // 43 Void
+    [kinds::VOID + 1, 1, 0, 0, 0, 1, 0, 0, 0], // 44 Bool
+    [kinds::VOID + 2, 1, 0, 0, 0, 1, 0, 0, 0], // 45 Char
+    [kinds::VOID + 3, 1, 0, 0, 0, 1, 0, 0, 0], // 46 Schar
+    [kinds::VOID + 4, 1, 0, 0, 0, 1, 0, 0, 0], // 47 Uchar
+    [kinds::VOID + 5, 1, 0, 0, 0, 1, 0, 0, 0], // 48 Short
+    [kinds::VOID + 6, 1, 0, 0, 0, 1, 0, 0, 0], // 49 Ushort
+    [kinds::VOID + 7, 1, 0, 0, 0, 1, 0, 0, 0], // 50 Int
+    [kinds::VOID + 8, 1, 0, 0, 0, 1, 0, 0, 0], // 51 Uint
+    [kinds::VOID + 9, 1, 0, 0, 0, 1, 0, 0, 0], // 52 Long
+    [kinds::VOID + 10, 1, 0, 0, 0, 1, 0, 0, 0], // 53 Ulong
+    [kinds::INT64, 1, 0, 0, 0, 1, 0, 0, 0], // 54
+    [kinds::VOID + 12, 1, 0, 0, 0, 1, 0, 0, 0], // 55 Uint64
+    [kinds::VOID + 13, 1, 0, 0, 0, 1, 0, 0, 0], // 56 Int128
+    [kinds::UINT128, 1, 0, 0, 0, 1, 0, 0, 0], // 57
+    [kinds::VOID + 15, 1, 0, 0, 0, 1, 0, 0, 0], // 58 Wchar
+    [kinds::VOID + 16, 1, 0, 0, 0, 1, 0, 0, 0], // 59 Char8
+    [kinds::VOID + 17, 1, 0, 0, 0, 1, 0, 0, 0], // 60 Char16
+    [kinds::VOID + 18, 1, 0, 0, 0, 1, 0, 0, 0], // 61 Char32
+    [kinds::VOID + 19, 1, 0, 0, 0, 1, 0, 0, 0], // 62 Float
+    [kinds::VOID + 20, 1, 0, 0, 0, 1, 0, 0, 0], // 63 Double
+    [kinds::LDOUBLE, 1, 0, 0, 0, 1, 0, 0, 0], // 64
+    [kinds::EMPTY_PARAMETER_PACK, 1, 0, 0, 0, 0, 0, 0, 0], // 65
+    [kinds::NULLPTR, 1, 0, 0, 0, 0, 0, 0, 0], // 66
+    [kinds::RTTI_TYPE, 1, 0, 0, 0, 0, 0, 0, 0], // 67
+    [kinds::PARSE_RESULT, 4, 14, 38, 0, 5, 0, 0, 0], // 68
 ];
 
 fn put_row(table: &mut [u32], n: usize)
@@ -144,9 +145,9 @@ fn try_node(table: &mut [u32], n: usize)
 {
     io::print_decimal(STDOUT_FILENO, n as u64);
     io::write_all(STDOUT_FILENO, b" kind ");
-    io::print_decimal(STDOUT_FILENO, node::cell(table, n, 0) as u64);
-    for j in 0..12usize {
-        try_cell(table, n * 12 + j);
+    io::print_decimal(STDOUT_FILENO, node::kind(table, n) as u64);
+    for j in 0..node::CELLS {
+        try_cell(table, n * node::CELLS + j);
     }
     io::write_all(STDOUT_FILENO, b"\n");
 }

@@ -8,10 +8,38 @@ use Rattle.scan.specs.Bytes.{pick, bytes, starts, spelled, upTo}
 use Rattle.scan.specs.declared.cursor.Leaf.{Leaf}
 use Rattle.scan.specs.declared.cursor.Leaf.the-variants.{Value, Bad}
 
+-- the operators that code and grammar ask for
+abbrev pub Ctor : ℕ
+Ctor = 0
+
+abbrev pub Dtor : ℕ
+Dtor = 1
+
+abbrev pub Conversion : ℕ
+Conversion = 11
+
+abbrev pub VBTable : ℕ
+VBTable = 44
+
+abbrev pub LocalStaticGuard : ℕ
+LocalStaticGuard = 47
+
+abbrev pub LiteralOperatorName : ℕ
+LiteralOperatorName = 68
+
+abbrev pub LocalStaticThreadGuard : ℕ
+LocalStaticThreadGuard = 74
+
+abbrev pub RTTITypeDescriptor : ℕ
+RTTITypeDescriptor = 75
+
+abbrev pub RTTIBaseClassDescriptor : ℕ
+RTTIBaseClassDescriptor = 76
+
 abbrev pub operators : List (String × ℕ)
 operators =
-    ("0", 0)  -- Ctor
-    ∷ ("1", 1)  -- Dtor
+    ("0", Ctor)
+    ∷ ("1", Dtor)
     ∷ ("2", 2)  -- New
     ∷ ("3", 3)  -- Delete
     ∷ ("4", 4)  -- Equal
@@ -21,7 +49,7 @@ operators =
     ∷ ("8", 8)  -- EqualEqual
     ∷ ("9", 9)  -- BangEqual
     ∷ ("A", 10)  -- Subscript
-    ∷ ("B", 11)  -- Conversion
+    ∷ ("B", Conversion)
     ∷ ("C", 12)  -- Arrow
     ∷ ("D", 13)  -- Star
     ∷ ("E", 14)  -- PlusPlus
@@ -54,10 +82,10 @@ operators =
     ∷ ("_5", 41)  -- PipeEqual
     ∷ ("_6", 42)  -- CaretEqual
     ∷ ("_7", 43)  -- VFTable
-    ∷ ("_8", 44)  -- VBTable
+    ∷ ("_8", VBTable)
     ∷ ("_9", 45)  -- VCall
     ∷ ("_A", 46)  -- Typeof
-    ∷ ("_B", 47)  -- LocalStaticGuard
+    ∷ ("_B", LocalStaticGuard)
     ∷ ("_C", 48)  -- String
     ∷ ("_D", 49)  -- VBaseDtor
     ∷ ("_E", 50)  -- VectorDeletingDtor
@@ -78,15 +106,15 @@ operators =
     ∷ ("_X", 65)  -- PlacementDeleteClosure
     ∷ ("_Y", 66)  -- PlacementArrayDeleteClosure
     ∷ ("__L", 67)  -- CoroutineAwait
-    ∷ ("__K", 68)  -- LiteralOperatorName
+    ∷ ("__K", LiteralOperatorName)
     ∷ ("_R2", 69)  -- RTTIBaseClassArray
     ∷ ("_R3", 70)  -- RTTIClassHierarchyDescriptor
     ∷ ("_R4", 71)  -- RTTIClassCompleteObjectLocator
     ∷ ("__E", 72)  -- DynamicInitializer
     ∷ ("__F", 73)  -- DynamicAtexitDtor
-    ∷ ("__J", 74)  -- LocalStaticThreadGuard
-    ∷ ("_R0", 75)  -- RTTITypeDescriptor
-    ∷ ("_R1", 76)  -- RTTIBaseClassDescriptor
+    ∷ ("__J", LocalStaticThreadGuard)
+    ∷ ("_R0", RTTITypeDescriptor)
+    ∷ ("_R1", RTTIBaseClassDescriptor)
     ∷ []
 
 -- read_special_name up to its operands: a wrong letter is taken, but for one behind `__`

@@ -7,6 +7,25 @@ ghost use lib.ListN.{drop};
 ghost use Rattle.operators.specs.Operators.{readOperator};
 use scan::cursor::Leaf;
 
+// The operators that code asks for.
+pub const CTOR: u32 = 0;
+
+pub const DTOR: u32 = 1;
+
+pub const CONVERSION: u32 = 11;
+
+pub const VBTABLE: u32 = 44;
+
+pub const LOCAL_STATIC_GUARD: u32 = 47;
+
+pub const LITERAL_OPERATOR_NAME: u32 = 68;
+
+pub const LOCAL_STATIC_THREAD_GUARD: u32 = 74;
+
+pub const RTTI_TYPE_DESCRIPTOR: u32 = 75;
+
+pub const RTTI_BASE_CLASS_DESCRIPTOR: u32 = 76;
+
 // `?x`
 fn operator(c: u8) -> Leaf
     requires { ⌜ (c ≡ 95 → ⊥) ⌝ }
@@ -39,10 +58,10 @@ fn double_under_operator(c: u8) -> Leaf
 {
     match c {
         b'L' => Leaf::Value(67, 3),
-        b'K' => Leaf::Value(68, 3),
+        b'K' => Leaf::Value(LITERAL_OPERATOR_NAME, 3),
         b'E' => Leaf::Value(72, 3),
         b'F' => Leaf::Value(73, 3),
-        b'J' => Leaf::Value(74, 3),
+        b'J' => Leaf::Value(LOCAL_STATIC_THREAD_GUARD, 3),
         _ => Leaf::Bad(2),
     }
 }

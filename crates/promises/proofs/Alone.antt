@@ -20,6 +20,7 @@ use Rattle.farthingmoss.specs.Call.{demangled, tableAfter, textAfter, rooted, r
 use Rattle.promises.specs.Promises.{own, Accepted, AloneAgrees}
 use Rattle.promises.proofs.Reading.{cells-length, within-formed, within-writes}
 use Rattle.promises.proofs.Grammar.{accepted, leaves, written-whole}
+use Rattle.node.specs.Kind.{kindNumber, ParseResult}
 
 -- the cells of nodes that a reading left are a rooted table
 module _ {s : List ℕ} {n : ℕ} {st : State} {ns : List Node} (w : formed.Whole s n st ns) where
@@ -29,7 +30,7 @@ module _ {s : List ℕ} {n : ℕ} {st : State} {ns : List Node} (w : formed.Whol
   last-node : length ns - 1 ≡ n
   last-node = omega (arith, w .last)
 
-  root-kind : cellOf (cellsOf ns) n 0 ≡ 3
+  root-kind : cellOf (cellsOf ns) n 0 ≡ kindNumber ParseResult
   root-kind = rw (append-nil (cellsOf ns)) at (cell-kind [] ns n (omega (arith, w .last)) ∙ w .root)
 
   is-rooted : rooted (length s) (cellsOf ns) ≡ true

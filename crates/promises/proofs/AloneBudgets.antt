@@ -27,6 +27,7 @@ use Rattle.gates.proofs.Opens.{open-low}
 use Rattle.promises.specs.Promises.{countsIn, Rooted, rootWords, rootCounts, says, AloneNothingLeft, AloneAnsweredLeaves, AloneFullLeaves, AloneAccepts, AloneBlames, AloneSpills, AloneMoreAnswered, AloneCutBegins, AloneSuffices, AloneTooShallow, AloneTooSmall}
 use Rattle.promises.proofs.Reading.{open-again}
 use Rattle.promises.proofs.Grammar.{written-whole, written-cut, fitted-whole, fitted-cut, impossible}
+use Rattle.scan.specs.Limits.{deepestReading}
 
 -- what a call says where its table is rooted
 module _ {f depth : ℕ} {s t : List ℕ} (w : Rooted f depth s t) where
@@ -119,7 +120,7 @@ module _ (f depth : ℕ) (s t : List ℕ) (room : ℕ) where
       (w, leb-true _ depth (r .0), r .1, r .2)
 
 -- another depth
-moved : {f depth depth′ : ℕ} {s t : List ℕ} → Rooted f depth s t → depth′ ≤ 200 → Rooted f depth′ s t
+moved : {f depth depth′ : ℕ} {s t : List ℕ} → Rooted f depth s t → depth′ ≤ deepestReading → Rooted f depth′ s t
 moved {f} {depth} {depth′} {s} w low = record { opens = open-again f depth depth′ s (w .opens) low; root = w .root }
 
 module _ {c : Counts} (f depth : ℕ) (s t : List ℕ) (room : ℕ) (e : writtenAlone f depth s t room ≡ Answered c) where
@@ -132,15 +133,15 @@ module _ {c : Counts} (f depth : ℕ) (s t : List ℕ) (room : ℕ) (e : written
   text-is : c .text ≡ length (rootWords f s t)
   text-is = ap (λ (x : Counts). x .text) (is .3)
 
-  depth-low : c .depth ≤ 200
+  depth-low : c .depth ≤ deepestReading
   depth-low = omega (arith, open-low f depth s (is .0 .opens), is .1, depth-is)
 
   module _ (depth′ room′ : ℕ) where
     -- budgets that hold the reported counts give the same answer
-    enough : c .depth ≤ depth′ → depth′ ≤ 200 → c .text ≤ room′ → writtenAlone f depth′ s t room′ ≡ Answered c
+    enough : c .depth ≤ depth′ → depth′ ≤ deepestReading → c .text ≤ room′ → writtenAlone f depth′ s t room′ ≡ Answered c
     enough p low r = when-whole (moved (is .0) low) (omega (arith, depth-is)) room′ (omega (arith, text-is)) ∙ ap Answered (sym (is .3))
 
-    more-answered : depth ≤ depth′ → depth′ ≤ 200 → room ≤ room′ → writtenAlone f depth′ s t room′ ≡ Answered c
+    more-answered : depth ≤ depth′ → depth′ ≤ deepestReading → room ≤ room′ → writtenAlone f depth′ s t room′ ≡ Answered c
     more-answered p low r = enough (omega (arith, depth-is, is .1)) low (omega (arith, text-is, is .2))
 
     -- a depth below the one reported is refused by depth
@@ -148,18 +149,18 @@ module _ {c : Counts} (f depth : ℕ) (s t : List ℕ) (room : ℕ) (e : written
     too-deep p = when-deep (moved (is .0) (omega (arith, depth-low))) (omega (arith, depth-is)) room′
 
     -- less room than reported, with depth enough, is refused by room
-    no-room : c .depth ≤ depth′ → depth′ ≤ 200 → room′ < c .text → writtenAlone f depth′ s t room′ ≡ NoRoom (countsIn room′ c)
+    no-room : c .depth ≤ depth′ → depth′ ≤ deepestReading → room′ < c .text → writtenAlone f depth′ s t room′ ≡ NoRoom (countsIn room′ c)
     no-room p low r =
         when-room (moved (is .0) low) (omega (arith, depth-is)) room′ (omega (arith, text-is))
         ∙ ap (λ (x : Counts). NoRoom (countsIn room′ x)) (sym (is .3))
 
-  begun : (depth′ : ℕ) → depth ≤ depth′ → depth′ ≤ 200 → (b : List ℕ) → room ≤ length b → take (c .text) (textAlone f depth′ s t b) ≡ rootWords f s t
+  begun : (depth′ : ℕ) → depth ≤ depth′ → depth′ ≤ deepestReading → (b : List ℕ) → room ≤ length b → take (c .text) (textAlone f depth′ s t b) ≡ rootWords f s t
   begun depth′ p low b l =
       ap (take (c .text)) (high-writes (moved (is .0) low) (omega (arith, is .1)) b ∙ cut-fits b (rootWords f s t) (omega (arith, is .2)))
       ∙ take-at (rootWords f s t) _ (c .text) (sym text-is)
 
   -- more room changes no word of the text
-  more-text : (depth′ : ℕ) (b b′ : List ℕ) → depth ≤ depth′ → depth′ ≤ 200 → room ≡ length b → room ≤ length b′ → take (c .text) (textAlone f depth′ s t b′) ≡ take (c .text) (textAlone f depth s t b)
+  more-text : (depth′ : ℕ) (b b′ : List ℕ) → depth ≤ depth′ → depth′ ≤ deepestReading → room ≡ length b → room ≤ length b′ → take (c .text) (textAlone f depth′ s t b′) ≡ take (c .text) (textAlone f depth s t b)
   more-text depth′ b b′ p low z r = begun depth′ p low b′ r ∙ sym (begun depth (omega arith) (open-low f depth s (is .0 .opens)) b (omega arith))
 
 pub accepts-exactly : AloneAccepts

@@ -25,6 +25,7 @@ use Rattle.farthingmoss.specs.Call.{through, fitted, refusal, demangled, rooted
 use Rattle.promises.specs.Promises.{rootWords, BadBudget, BadLength, FirstHigh, Gated, ReadGated, WriteGated, NameGated, WriteTables, NameTables, NameAccepts}
 use Rattle.promises.proofs.Reading.{said-any, open-answers}
 use Rattle.promises.proofs.Grammar.{impossible}
+use Rattle.scan.specs.Limits.{longestSymbol, deepestReading}
 
 -- where the first byte of 128 or more stands
 first-cons : (c : ℕ) (s : List ℕ) (at : ℕ) → c < 128 → ((i : ℕ) → i < at → getD s i 0 < 128) → (i : ℕ) → i < suc at → getD (c ∷ s) i 0 < 128
@@ -60,14 +61,14 @@ record Stands (bad : Type 0) (s : List ℕ) (g : Gate) : Type 0 where
 length-stands : {s : List ℕ} → BadLength s → Stands ⊥ s Symbol
 length-stands l = record { call = (λ e. impossible (cc), λ x. absurd x); symbol = (λ e. (λ x. x, l), λ w. refl); high = λ at. (λ e. impossible (cc), λ w. absurd (w .1 l)) }
 
-symbol-by : (s : List ℕ) (empty short high : Bool) → eqb (length s) 0 ≡ empty → leb (length s) 4096 ≡ short → ltb (highAt s) (length s) ≡ high →
+symbol-by : (s : List ℕ) (empty short high : Bool) → eqb (length s) 0 ≡ empty → leb (length s) longestSymbol ≡ short → ltb (highAt s) (length s) ≡ high →
     Stands ⊥ s (pick empty Symbol (pick short (pick high (High (highAt s)) Open) Symbol))
 symbol-by s true short high e₀ e₁ e₂ = length-stands (inl (eqb-true _ 0 e₀))
-symbol-by s false false high e₀ e₁ e₂ = length-stands (inr (leb-false _ 4096 e₁))
+symbol-by s false false high e₀ e₁ e₂ = length-stands (inr (leb-false _ longestSymbol e₁))
 symbol-by s false true high e₀ e₁ e₂ = by-high high e₂
   where
     fits : ¬ BadLength s
-    fits = ⊎-elim (eqb-false _ 0 e₀) (λ l. omega (arith, l, leb-true (length s) 4096 e₁))
+    fits = ⊎-elim (eqb-false _ 0 e₀) (λ l. omega (arith, l, leb-true (length s) longestSymbol e₁))
 
     the-place : {at : ℕ} → _≡_ {A = Gate} (High (highAt s)) (High at) → highAt s ≡ at
     the-place e = cc
@@ -86,14 +87,14 @@ symbol-by s false true high e₀ e₁ e₂ = by-high high e₂
 
 symbol-stands : (s : List ℕ) → Stands ⊥ s (symbolGate s)
 unfolding symbolGate
-symbol-stands s = symbol-by s (eqb (length s) 0) (leb (length s) 4096) (ltb (highAt s) (length s)) refl refl refl
+symbol-stands s = symbol-by s (eqb (length s) 0) (leb (length s) longestSymbol) (ltb (highAt s) (length s)) refl refl refl
 
 -- with the budgets before it
 budget-stands : {bad : Type 0} {s : List ℕ} → bad → Stands bad s Call
 budget-stands b = record { call = (λ e. b, λ x. refl); symbol = (λ e. impossible (cc), λ w. absurd (w .0 b)); high = λ at. (λ e. impossible (cc), λ w. absurd (w .0 b)) }
 
-gate-by : (f depth : ℕ) (s : List ℕ) (low known : Bool) → leb depth 200 ≡ low → knownFlags f ≡ known → (g : Gate) → Stands ⊥ s g → Stands (BadBudget f depth) s (pick low (pick known g Call) Call)
-gate-by f depth s false known e₀ e₁ g w = budget-stands (inl (leb-false depth 200 e₀))
+gate-by : (f depth : ℕ) (s : List ℕ) (low known : Bool) → leb depth deepestReading ≡ low → knownFlags f ≡ known → (g : Gate) → Stands ⊥ s g → Stands (BadBudget f depth) s (pick low (pick known g Call) Call)
+gate-by f depth s false known e₀ e₁ g w = budget-stands (inl (leb-false depth deepestReading e₀))
 gate-by f depth s true false e₀ e₁ g w = budget-stands (inr e₁)
 gate-by f depth s true true e₀ e₁ g w = record {
   call = (λ e. absurd (w .call .0 e), λ b. absurd (good b));
@@ -102,11 +103,11 @@ gate-by f depth s true true e₀ e₁ g w = record {
 }
   where
     good : ¬ BadBudget f depth
-    good = ⊎-elim (λ l. omega (arith, l, leb-true depth 200 e₀)) (λ e. impossible (let z : _≡_ {A = Bool} true false = sym e₁ ∙ e in cc))
+    good = ⊎-elim (λ l. omega (arith, l, leb-true depth deepestReading e₀)) (λ e. impossible (let z : _≡_ {A = Bool} true false = sym e₁ ∙ e in cc))
 
 gate-stands : (f depth : ℕ) (s : List ℕ) → Stands (BadBudget f depth) s (gate f depth s)
 unfolding gate
-gate-stands f depth s = gate-by f depth s (leb depth 200) (knownFlags f) refl refl (symbolGate s) (symbol-stands s)
+gate-stands f depth s = gate-by f depth s (leb depth deepestReading) (knownFlags f) refl refl (symbolGate s) (symbol-stands s)
 
 -- an answer that no gate gives
 abbrev late : Answer → Bool

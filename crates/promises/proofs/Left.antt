@@ -26,6 +26,7 @@ use Rattle.promises.specs.Promises.{own, ownNodes, ownText, says, zeroed
 use Rattle.promises.proofs.Reading.{said, said-any, wrote, open-answers, open-leaves, open-writes, within-leaves, within-writes, isRead, refusal-read}
 use Rattle.promises.proofs.Grammar.{impossible, nodes-left, writes, begins, accepted, spilled, rejected}
 use Rattle.promises.proofs.Budgets.{more-text}
+use Rattle.scan.specs.Limits.{deepestReading}
 
 said-read : (f : ℕ) (s : List ℕ) (room : ℕ) (r : Reply ℕ) (st : State) (ns : List Node) → isRead (said f s room r st ns) ≡ true
 said-read = said-any (λ (a : Answer). isRead a ≡ true) (λ c. refl) (λ c. refl) refusal-read
@@ -76,7 +77,7 @@ full-leaves f depth s t b c e =
 
 -- a reading and each of its demands have as many nodes as they count
 own-honest : (s : List ℕ) → HonestLog (own s .state .used) (own s .cells)
-own-honest s = reads-honest body (sameNodes s) s 200 Parse start (record { nodes = []; asked = [] }) (record { counted = refl; demands = tt })
+own-honest s = reads-honest body (sameNodes s) s deepestReading Parse start (record { nodes = []; asked = [] }) (record { counted = refl; demands = tt })
 
 pub syntax-leaves : SyntaxLeaves
 syntax-leaves f depth s t b at e =

@@ -40,8 +40,9 @@ use Rattle.gates.specs.Gates.{knownFlags, symbolGate, gate}
 use Rattle.farthingmoss.specs.Call.{through, fitted, refusal, answerOf, textLeft, demangled, tableAfter, textAfter}
 use Rattle.gates.proofs.Opens.{open-low}
 use Rattle.promises.specs.Promises.{own, Within}
+use Rattle.scan.specs.Limits.{longestSymbol, Short, deepestReading}
 
--- an open gate: the symbol is short, and the gate is open for every other depth up to 200
+-- an open gate: the symbol is short, and the gate is open for every other depth up to the deepest reading
 call-held : (b : Bool) (g : Gate) → pick b g Call ≡ Open → (b ≡ true) × (g ≡ Open)
 call-held true g e = (refl, e)
 call-held false g e = (cc, cc)
@@ -53,21 +54,21 @@ symbol-held false false g e = cc
 
 gate-inner : (f depth : ℕ) (s : List ℕ) → gate f depth s ≡ Open → pick (knownFlags f) (symbolGate s) Call ≡ Open
 unfolding gate
-gate-inner f depth s e = call-held (leb depth 200) _ e .1
+gate-inner f depth s e = call-held (leb depth deepestReading) _ e .1
 
-pub open-short : (f depth : ℕ) (s : List ℕ) → gate f depth s ≡ Open → length s ≤ 4096
+pub open-short : (f depth : ℕ) (s : List ℕ) → gate f depth s ≡ Open → Short s
 unfolding symbolGate
-open-short f depth s e = leb-true _ _ (symbol-held (eqb (length s) 0) (leb (length s) 4096) _ (call-held (knownFlags f) (symbolGate s) (gate-inner f depth s e) .1))
+open-short f depth s e = leb-true _ _ (symbol-held (eqb (length s) 0) (leb (length s) longestSymbol) _ (call-held (knownFlags f) (symbolGate s) (gate-inner f depth s e) .1))
 
-pub open-again : (f depth depth′ : ℕ) (s : List ℕ) → gate f depth s ≡ Open → depth′ ≤ 200 → gate f depth′ s ≡ Open
+pub open-again : (f depth depth′ : ℕ) (s : List ℕ) → gate f depth s ≡ Open → depth′ ≤ deepestReading → gate f depth′ s ≡ Open
 unfolding gate
-open-again f depth depth′ s e l = rw (le-leb depth′ 200 l) (gate-inner f depth s e)
+open-again f depth depth′ s e l = rw (le-leb depth′ deepestReading l) (gate-inner f depth s e)
 
 open-inside : (f depth : ℕ) (s : List ℕ) → gate f depth s ≡ Open → inside s depth ≡ true
-open-inside f depth s e = rw (le-leb (length s) 4096 (open-short f depth s e), le-leb depth 200 (open-low f depth s e))
+open-inside f depth s e = rw (le-leb (length s) longestSymbol (open-short f depth s e), le-leb depth deepestReading (open-low f depth s e))
 
 -- what budgets make of the grammar's own reading
-module _ (s : List ℕ) (depth room : ℕ) (low : depth ≤ 200) where
+module _ (s : List ℕ) (depth room : ℕ) (low : depth ≤ deepestReading) where
   settles-own : readNodes body (sameNodes s) s depth room depth Parse start [] ≡ settle depth room (own s)
   settles-own = settles body (sameNodes s) s depth room low Parse start
 
@@ -87,13 +88,13 @@ module _ (s : List ℕ) (depth room : ℕ) (low : depth ≤ 200) where
   settles-stands e = stands body (sameNodes s) s Parse start refl refl depth room low (ap (λ (o : Out ℕ (List Node)). passed (o .reply)) settles-own ∙ e)
 
   -- one that answers leaves a well-formed table, and its root is the last node
-  settles-formed : length s ≤ 4096 → (n : ℕ) → settle depth room (own s) .reply ≡ found n → formed.Whole s n (settle depth room (own s) .state) (settle depth room (own s) .cells)
+  settles-formed : Short s → (n : ℕ) → settle depth room (own s) .reply ≡ found n → formed.Whole s n (settle depth room (own s) .state) (settle depth room (own s) .cells)
   settles-formed short n e =
       formed.grammar-formed s short depth room start refl refl refl refl (sameNodes s)
       (settles-own ∙ ap (λ (r : Reply ℕ). out r (settle depth room (own s) .state) (settle depth room (own s) .cells)) e)
 
 -- within no budget it is refused for depth or room only where its own demands pass every depth
-pub own-low : (s : List ℕ) (depth room : ℕ) → depth ≤ 200 → fits depth room (own s .cells .asked) ≡ true → passed (own s .reply) ≡ true → ⊥
+pub own-low : (s : List ℕ) (depth room : ℕ) → depth ≤ deepestReading → fits depth room (own s .cells .asked) ≡ true → passed (own s .reply) ≡ true → ⊥
 own-low s depth room low h e =
     let r = reports body (sameNodes s) s Parse start refl refl in
     let f = fits-low depth room (own s .cells .asked) h in

@@ -23,6 +23,7 @@ use Rattle.gates.specs.Gates.{gate, highAt, symbolGate}
 use Rattle.farthingmoss.specs.Call.{through, fitted, refusal, filled, demangled, rooted, rootHeight, rootAnswer, writtenAlone, nameOk, nameAnswer}
 use Rattle.promises.specs.Promises.{says, ReadNumbers, WriteNumbers, NameNumbers, Reports, ZeroCounts}
 use Rattle.promises.proofs.Reading.{said, said-any, open-answers}
+use Rattle.scan.specs.Limits.{longestSymbol}
 
 five : (l : List ℕ) (a b c d e : ℕ) → length l ≡ 5 → filled l a b c d e ≡ a ∷ b ∷ c ∷ d ∷ e ∷ []
 five [] a b c d e h = absurd (omega (arith, h))
@@ -106,4 +107,4 @@ named-by false true false false at = refl
 
 pub name-numbers : NameNumbers
 unfolding nameAnswer symbolGate
-name-numbers s t n = named-by (eqb (length s) 0) (leb (length s) 4096) (ltb (highAt s) (length s)) (nameOk (length s) t n) (highAt s)
+name-numbers s t n = named-by (eqb (length s) 0) (leb (length s) longestSymbol) (ltb (highAt s) (length s)) (nameOk (length s) t n) (highAt s)

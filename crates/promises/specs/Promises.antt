@@ -31,6 +31,7 @@ use Rattle.farthingmoss.specs.declared.Answer.{Answer}
 use Rattle.farthingmoss.specs.declared.Answer.the-variants.{Answered, NoSymbol, NotAscii, NoDerivation, TooDeep, NoNode, NoRoom, BadCall, BadTable}
 use Rattle.gates.specs.Gates.{knownFlags, symbolGate, gate}
 use Rattle.farthingmoss.specs.Call.{reportOf, reported, refusal, demangled, tableAfter, textAfter, rooted, rootHeight, writtenAlone, textAlone, nameOk, nameAnswer, nameOf}
+use Rattle.scan.specs.Limits.{longestSymbol, deepestReading}
 
 -- THE WORDS
 
@@ -151,13 +152,13 @@ bit word i = word / 2 ^ i % 2
 abbrev pub KnownWords : Type 0
 KnownWords = (f : ℕ) → f < 2 ^ 32 → (knownFlags f ≡ true) ↔ ((i : ℕ) → bit f i ≡ 1 → bit 32513766 i ≡ 1)
 
--- Before anything is read: 7 exactly where the depth budget is above 200 or a flag bit is unknown; else 1 exactly where the symbol has no byte or more than 4,096; else 2 exactly
+-- Before anything is read: 7 exactly where the depth budget is above the deepest reading or a flag bit is unknown; else 1 exactly where the symbol has no byte or is too long; else 2 exactly
 -- where it has a byte of 128 or more, at the first. (The name question has no budget, so that it never says 7.)
 abbrev pub BadBudget : ℕ → ℕ → Type 0
-BadBudget f depth = (200 < depth) ⊎ (knownFlags f ≡ false)
+BadBudget f depth = (deepestReading < depth) ⊎ (knownFlags f ≡ false)
 
 abbrev pub BadLength : List ℕ → Type 0
-BadLength s = (length s ≡ 0) ⊎ (4096 < length s)
+BadLength s = (length s ≡ 0) ⊎ (longestSymbol < length s)
 
 pub record FirstHigh (s : List ℕ) (at : ℕ) : Type 0 where
   pub inside : at < length s
@@ -330,20 +331,20 @@ ListsEnd = OfEachReading EnoughTurns
 -- An answer is the same with no less depth, nodes and room: the counts, the text and the nodes.
 abbrev pub MoreAnswered : Type 0
 MoreAnswered =
-    (f depth depth′ : ℕ) (s t t′ b b′ : List ℕ) (c : Counts) → demangled f depth s t (length b) ≡ Answered c → depth ≤ depth′ → depth′ ≤ 200 → nodes t ≤ nodes t′ → length b ≤ length b′ →
+    (f depth depth′ : ℕ) (s t t′ b b′ : List ℕ) (c : Counts) → demangled f depth s t (length b) ≡ Answered c → depth ≤ depth′ → depth′ ≤ deepestReading → nodes t ≤ nodes t′ → length b ≤ length b′ →
     (demangled f depth′ s t′ (length b′) ≡ Answered c) × (take (c .text) (textAfter f depth′ s t′ b′) ≡ take (c .text) (textAfter f depth s t b))
     × (take (c .nodes * 12) (tableAfter f depth′ s t′) ≡ take (c .nodes * 12) (tableAfter f depth s t))
 
 -- So is a refusal for want of a derivation.
 abbrev pub MoreRefused : Type 0
 MoreRefused =
-    (f depth depth′ : ℕ) (s t t′ : List ℕ) (room room′ at : ℕ) → demangled f depth s t room ≡ NoDerivation at → depth ≤ depth′ → depth′ ≤ 200 → nodes t ≤ nodes t′ →
+    (f depth depth′ : ℕ) (s t t′ : List ℕ) (room room′ at : ℕ) → demangled f depth s t room ≡ NoDerivation at → depth ≤ depth′ → depth′ ≤ deepestReading → nodes t ≤ nodes t′ →
     demangled f depth′ s t′ room′ ≡ NoDerivation at
 
 -- A text cut for room begins the text of a second call with no less depth, nodes and room.
 abbrev pub CutBegins : Type 0
 CutBegins =
-    (f depth depth′ : ℕ) (s t t′ b b′ : List ℕ) (c : Counts) → demangled f depth s t (length b) ≡ NoRoom c → depth ≤ depth′ → depth′ ≤ 200 → nodes t ≤ nodes t′ → length b ≤ length b′ →
+    (f depth depth′ : ℕ) (s t t′ b b′ : List ℕ) (c : Counts) → demangled f depth s t (length b) ≡ NoRoom c → depth ≤ depth′ → depth′ ≤ deepestReading → nodes t ≤ nodes t′ → length b ≤ length b′ →
     textAfter f depth s t b ≡ take (length b) (textAfter f depth′ s t′ b′)
 
 -- 4 and 5 come exactly when, before any other, the grammar's own count passes that limit; 6 exactly when none does and the text of its tree is longer than the room.
@@ -358,7 +359,7 @@ Spills =
 -- The reported counts suffice.
 abbrev pub Suffices : Type 0
 Suffices =
-    (f depth depth′ : ℕ) (s t t′ : List ℕ) (room room′ : ℕ) (c : Counts) → demangled f depth s t room ≡ Answered c → c .depth ≤ depth′ → depth′ ≤ 200 → c .nodes ≤ nodes t′ → c .text ≤ room′ →
+    (f depth depth′ : ℕ) (s t t′ : List ℕ) (room room′ : ℕ) (c : Counts) → demangled f depth s t room ≡ Answered c → c .depth ≤ depth′ → depth′ ≤ deepestReading → c .nodes ≤ nodes t′ → c .text ≤ room′ →
     demangled f depth′ s t′ room′ ≡ Answered c
 
 -- One smaller, or smaller still, is refused by that limit's name: depth, nodes, room.
@@ -369,12 +370,12 @@ TooShallow =
 
 abbrev pub TooFew : Type 0
 TooFew =
-    (f depth depth′ : ℕ) (s t t′ : List ℕ) (room room′ : ℕ) (c : Counts) → demangled f depth s t room ≡ Answered c → c .depth ≤ depth′ → depth′ ≤ 200 → nodes t′ < c .nodes →
+    (f depth depth′ : ℕ) (s t t′ : List ℕ) (room room′ : ℕ) (c : Counts) → demangled f depth s t room ≡ Answered c → c .depth ≤ depth′ → depth′ ≤ deepestReading → nodes t′ < c .nodes →
     (at : ℕ) × (demangled f depth′ s t′ room′ ≡ NoNode at)
 
 abbrev pub TooSmall : Type 0
 TooSmall =
-    (f depth depth′ : ℕ) (s t t′ : List ℕ) (room room′ : ℕ) (c : Counts) → demangled f depth s t room ≡ Answered c → c .depth ≤ depth′ → depth′ ≤ 200 → c .nodes ≤ nodes t′ → room′ < c .text →
+    (f depth depth′ : ℕ) (s t t′ : List ℕ) (room room′ : ℕ) (c : Counts) → demangled f depth s t room ≡ Answered c → c .depth ≤ depth′ → depth′ ≤ deepestReading → c .nodes ≤ nodes t′ → room′ < c .text →
     demangled f depth′ s t′ room′ ≡ NoRoom (countsIn room′ c)
 
 -- The writer alone owes the same for depth and text room, on one unchanged table: exactly when it answers, refuses 4 and refuses 6;
@@ -396,18 +397,18 @@ AloneSpills =
 -- more changes no word, and a cut text begins the whole;
 abbrev pub AloneMoreAnswered : Type 0
 AloneMoreAnswered =
-    (f depth depth′ : ℕ) (s t b b′ : List ℕ) (c : Counts) → writtenAlone f depth s t (length b) ≡ Answered c → depth ≤ depth′ → depth′ ≤ 200 → length b ≤ length b′ →
+    (f depth depth′ : ℕ) (s t b b′ : List ℕ) (c : Counts) → writtenAlone f depth s t (length b) ≡ Answered c → depth ≤ depth′ → depth′ ≤ deepestReading → length b ≤ length b′ →
     (writtenAlone f depth′ s t (length b′) ≡ Answered c) × (take (c .text) (textAlone f depth′ s t b′) ≡ take (c .text) (textAlone f depth s t b))
 
 abbrev pub AloneCutBegins : Type 0
 AloneCutBegins =
-    (f depth depth′ : ℕ) (s t b b′ : List ℕ) (c : Counts) → writtenAlone f depth s t (length b) ≡ NoRoom c → depth ≤ depth′ → depth′ ≤ 200 → length b ≤ length b′ →
+    (f depth depth′ : ℕ) (s t b b′ : List ℕ) (c : Counts) → writtenAlone f depth s t (length b) ≡ NoRoom c → depth ≤ depth′ → depth′ ≤ deepestReading → length b ≤ length b′ →
     textAlone f depth s t b ≡ take (length b) (textAlone f depth′ s t b′)
 
 -- the reported counts suffice, and less is refused by that limit's name.
 abbrev pub AloneSuffices : Type 0
 AloneSuffices =
-    (f depth depth′ : ℕ) (s t : List ℕ) (room room′ : ℕ) (c : Counts) → writtenAlone f depth s t room ≡ Answered c → c .depth ≤ depth′ → depth′ ≤ 200 → c .text ≤ room′ →
+    (f depth depth′ : ℕ) (s t : List ℕ) (room room′ : ℕ) (c : Counts) → writtenAlone f depth s t room ≡ Answered c → c .depth ≤ depth′ → depth′ ≤ deepestReading → c .text ≤ room′ →
     writtenAlone f depth′ s t room′ ≡ Answered c
 
 abbrev pub AloneTooShallow : Type 0
@@ -416,7 +417,7 @@ AloneTooShallow =
 
 abbrev pub AloneTooSmall : Type 0
 AloneTooSmall =
-    (f depth depth′ : ℕ) (s t : List ℕ) (room room′ : ℕ) (c : Counts) → writtenAlone f depth s t room ≡ Answered c → c .depth ≤ depth′ → depth′ ≤ 200 → room′ < c .text →
+    (f depth depth′ : ℕ) (s t : List ℕ) (room room′ : ℕ) (c : Counts) → writtenAlone f depth s t room ≡ Answered c → c .depth ≤ depth′ → depth′ ≤ deepestReading → room′ < c .text →
     writtenAlone f depth′ s t room′ ≡ NoRoom (countsIn room′ c)
 
 -- The reading call writes what the writer alone writes on its table: the same answer, at offset 0, and the same text.

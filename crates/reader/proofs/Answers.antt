@@ -22,30 +22,31 @@ use Rattle.steps.specs.declared.state.Got.{Got}
 use Rattle.steps.specs.declared.state.Answer.the-variants as answer
 use Rattle.reader.specs.Whole.{start, whole, inside, answered, tableLeft}
 use Rattle.reader.specs.declared.Whole.the-variants.{Outside, Root, Refused}
+use Rattle.scan.specs.Limits.{longestSymbol, Short, deepestReading, mostNodes}
 
-inside-true : (s : List ℕ) (limit : ℕ) → length s ≤ 4096 → limit ≤ 200 → inside s limit ≡ true
-inside-true s limit short low = rw (le-leb (length s) 4096 short, le-leb limit 200 low)
+inside-true : (s : List ℕ) (limit : ℕ) → Short s → limit ≤ deepestReading → inside s limit ≡ true
+inside-true s limit short low = rw (le-leb (length s) longestSymbol short, le-leb limit deepestReading low)
 
-pub outside-long : (s : List ℕ) (limit : ℕ) → 4096 < length s → inside s limit ≡ false
-outside-long s limit long = rw (lt-leb (length s) 4096 long)
+pub outside-long : (s : List ℕ) (limit : ℕ) → longestSymbol < length s → inside s limit ≡ false
+outside-long s limit long = rw (lt-leb (length s) longestSymbol long)
 
 outside-at : (b c : Bool) → c ≡ false → pick b c false ≡ false
 outside-at true c e = e
 outside-at false c e = refl
 
-pub outside-deep : (s : List ℕ) (limit : ℕ) → 200 < limit → inside s limit ≡ false
-outside-deep s limit deep = outside-at (leb (length s) 4096) (leb limit 200) (lt-leb limit 200 deep)
+pub outside-deep : (s : List ℕ) (limit : ℕ) → deepestReading < limit → inside s limit ≡ false
+outside-deep s limit deep = outside-at (leb (length s) longestSymbol) (leb limit deepestReading) (lt-leb limit deepestReading deep)
 
 pub told-outside : (s : List ℕ) (limit : ℕ) (t : List ℕ) {st : State} → st ≡ start → inside s limit ≡ false → (record { answer = Outside; state = st } ≡ answered s limit t) × (t ≡ tableLeft s limit t)
 told-outside s limit t e f = (rw (e, f), rw f)
 
 module _
-    {s t t₁ names types names₁ types₁ : List ℕ} {limit room : ℕ} {st : Spot} {g : Got} (short : length s ≤ 4096) (low : limit ≤ 200) (first : full st (lent t names types) ≡ start) (rooms : room ≡ min 8192 (nodes t))
+    {s t t₁ names types names₁ types₁ : List ℕ} {limit room : ℕ} {st : Spot} {g : Got} (short : Short s) (low : limit ≤ deepestReading) (first : full st (lent t names types) ≡ start) (rooms : room ≡ min mostNodes (nodes t))
     (reads : Reads s limit room limit Parse st (lent t names types) plain g (lent t₁ names₁ types₁)) where
   agrees : Agree t (goes plain g (lent t₁ names₁ types₁)) (whole s limit t)
   agrees =
       subst (λ (o : Out ℕ (List ℕ)). Agree t o (whole s limit t)) (sym (reads .is ∙ ap (λ (x : State). readTable body s limit room limit Parse x t) first ∙ ap (λ (r : ℕ). readTable body s limit r limit Parse start t) rooms))
-      (capped-held s t start refl refl refl limit 8192 low (omega (arith, short)))
+      (capped-held s t start refl refl refl limit mostNodes low (omega (arith, short)))
 
   pub counted-fits : g .state .used * 12 ≤ length t₁
   counted-fits = used-fits (goes plain g (lent t₁ names₁ types₁)) (whole s limit t) agrees

@@ -15,6 +15,7 @@ use Rattle.steps.specs.declared.state.Spot.{Spot}
 use Rattle.reader.specs.declared.Whole.{Whole}
 use Rattle.reader.specs.declared.Whole.the-variants.{Outside, Root, Refused}
 use Rattle.reader.specs.declared.Outcome.{Outcome}
+use Rattle.scan.specs.Limits.{longestSymbol, deepestReading}
 
 -- a reading begins with an empty memo
 abbrev pub begun : Spot
@@ -27,9 +28,9 @@ start = record { at = 0; used = 0; deep = 0; memo = emptyMemo }
 abbrev pub whole : List ℕ → ℕ → List ℕ → Out ℕ (List Node)
 whole s limit t = settle limit (nodes t) (asks body (sameNodes s) s Parse start)
 
--- a symbol of more than 4,096 bytes and a depth above 200 are not read
+-- a symbol that is not short and a depth above the deepest reading are not read
 abbrev pub inside : List ℕ → ℕ → Bool
-inside s limit = pick (leb (length s) 4096) (leb limit 200) false
+inside s limit = pick (leb (length s) longestSymbol) (leb limit deepestReading) false
 
 abbrev pub told : Reply ℕ → Whole
 told (found n) = Root n

@@ -7,15 +7,21 @@ ghost use lib.ListN.{length, drop, replicate};
 ghost use Rattle.node.specs.Cells.{nodes};
 ghost use Rattle.steps.specs.Does.{lent, full};
 ghost use Rattle.reader.specs.Whole.{begun, answered, tableLeft};
+ghost use Rattle.scan.specs.Limits.{mostNodes};
 use cycle::parse;
+use grammar::ENTRIES;
+use grammar::Entries;
 use grammar::Memo;
 use grammar::Refusal;
 use grammar::State;
+use scan::limits::DEEPEST_READING;
+use scan::limits::LONGEST_SYMBOL;
+use scan::limits::MOST_NODES;
 use steps::state::Answer;
 use steps::state::Limits;
 use steps::state::Spot;
 
-// What a whole reading answers: nothing is read of a symbol above 4,096 bytes or within a depth above 200.
+// What a whole reading answers: nothing is read of a symbol or within a depth above the limits.
 pub enum Whole {
     Outside,
     Root(u16),
@@ -52,7 +58,7 @@ fn begin() -> Spot
 }
 
 // The state with the memo in it.
-fn state_of(st: Spot, names: [u16; 10], types: [u16; 10]) -> State
+fn state_of(st: Spot, names: Entries, types: Entries) -> State
     ensures { λ r. ⌜ r ≡ full st (lent [] names types) ⌝ }
 {
     let m = Memo {
@@ -69,12 +75,15 @@ fn state_of(st: Spot, names: [u16; 10], types: [u16; 10]) -> State
     }
 }
 
-// The nodes that a reading may count: no symbol asks for more than 8,192.
+// The most nodes, as a budget has them.
+const MOST: u16 = MOST_NODES as u16;
+
+// The nodes that a reading may count: no symbol asks for more than the most.
 fn room_of(t: &[u32]) -> u16
-    ensures { λ r. ⌜ r ≡ min 8192 (nodes (now (t .entry))) ⌝ }
+    ensures { λ r. ⌜ r ≡ min mostNodes (nodes (now (t .entry))) ⌝ }
 {
     let n = node::room(t);
-    if n < 8192 { n as u16 } else { 8192 }
+    if n < MOST_NODES { n as u16 } else { MOST }
 }
 
 // Reads a symbol. A refusal leaves the nodes that were counted as zeros.
@@ -83,15 +92,15 @@ pub fn read(s: &[u8], t: &mut [u32], limit: u16) -> Outcome
     ensures { λ _. ⌜ now (t .exit) ≡ tableLeft (now (s .entry)) limit (now (t .entry)) ⌝ }
 {
     let first = begin();
-    let mut names = [0u16; 10];
-    let mut types = [0u16; 10];
-    if 4096 < s.len() {
+    let mut names = [0u16; ENTRIES];
+    let mut types = [0u16; ENTRIES];
+    if LONGEST_SYMBOL < s.len() {
         return Outcome {
             answer: Whole::Outside,
             state: state_of(first, names, types),
         };
     }
-    if 200 < limit {
+    if DEEPEST_READING < limit {
         return Outcome {
             answer: Whole::Outside,
             state: state_of(first, names, types),
@@ -110,7 +119,7 @@ pub fn read(s: &[u8], t: &mut [u32], limit: u16) -> Outcome
             state: end,
         },
         Answer::Refused(why) => {
-            clear(t, (end.used as usize) * 12);
+            clear(t, (end.used as usize) * node::CELLS);
             Outcome {
                 answer: Whole::Refused(why),
                 state: end,

@@ -6,7 +6,7 @@ use mathlib.Core.Bool.{Bool, true, false}
 use mathlib.Core.List.{List, [], _∷_}
 use native.Mathlib.Omega.{arith}
 use lib.ListN.{length, drop, length-drop}
-use Rattle.scan.specs.Bytes.{pick, is, between, isDigit, isLower, isUpper}
+use Rattle.scan.specs.Bytes.{pick, is, between, isDigit}
 use Rattle.scan.specs.Number.{sign, letters, magnitude, readNumber}
 use Rattle.scan.specs.declared.cursor.Leaf.{Leaf}
 use Rattle.scan.specs.declared.cursor.Leaf.the-variants.{Value, Bad}

@@ -3,3 +3,4 @@ pub mod Cursor
 pub mod Number
 pub mod Cases
 pub mod Name
+pub mod Limits

@@ -1,6 +1,6 @@
 // The parts of names: up to the next `@`, hex digits, an MD5 name.
 ghost use mathlib.Core.Path.{_≡_};
-ghost use lib.ListN.{length, drop};
+ghost use lib.ListN.{drop};
 ghost use Rattle.scan.specs.Name.{readString, readHexDigits, readMd5Name};
 use crate::cursor::Span;
 use crate::cursor::consume;

@@ -2,7 +2,7 @@
 ghost use mathlib.Core.Path.{_≡_};
 ghost use Prim.Native.Nat.{_≤_, _+_, _*_, _-_, _%_, _^_};
 ghost use lib.ListN.{length, drop};
-ghost use Rattle.scan.specs.Number.{signed, sign, letters, magnitude, readNumber, unsigned, readUnsigned, guardDigits, readGuardNumber};
+ghost use Rattle.scan.specs.Number.{signed, sign, letters, magnitude, readNumber, readUnsigned, guardDigits, readGuardNumber};
 use crate::cursor::Leaf;
 
 // The bits, negated where the number is: negation wraps.

@@ -1,17 +1,16 @@
 -- The node that a reference names, at its kind, in the words of what the code has read. Assumes nothing.
 use Prim.Native.Nat.{ℕ, _-_, _<_}
-use mathlib.Core.Bool.{true, false, cond}
+use mathlib.Core.Bool.{true, false}
 use mathlib.Core.Path.{_≡_, sym, ap, _∙_}
 use mathlib.Core.List.{List, [], _∷_}
-use lib.Dec.{eqb}
 use Rattle.node.specs.Cells.{cellOf}
-use Rattle.meaning.specs.Tree.{node, contentOf, numbersOf, bytesOf, treeOf, kidOf}
+use Rattle.meaning.specs.Tree.{node, shown, numbersOf, bytesOf, treeOf, kidOf}
 use Rattle.meaning.proofs.Trees.{tree-none, tree-is}
 use Rattle.serializer.specs.Serializer.{kindOf, isEmpty}
 
--- a kind's numbers: cells 9 and 10, and 7 and 8 where these are no place in the symbol
+-- the numbers of a node of kind K
 abbrev pub numbersAt : ℕ → ℕ → ℕ → ℕ → ℕ → List ℕ
-numbersAt K p q r s = r ∷ s ∷ cond (eqb (contentOf K) 0) (p ∷ q ∷ []) []
+numbersAt K p q r s = shown K p ∷ shown K q ∷ r ∷ s ∷ []
 
 module _ (t y : List ℕ) {r : ℕ} (h : 0 < r) where
   pub kind-is : {k : ℕ} → k ≡ cellOf t (r - 1) 0 → kindOf (treeOf t y r) ≡ k

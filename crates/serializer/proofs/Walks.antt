@@ -15,6 +15,7 @@ use Rattle.serializer.specs.Pieces.{guardOf}
 use Rattle.serializer.specs.Lists.{isPack, countSome, skipPacks, withoutLast, firstEntry}
 use Rattle.serializer.proofs.Nodes.{node-at, kind-is, not-empty, empty-none, kind-none}
 use Rattle.serializer.proofs.Chain.{either, count-pack, count-more, skip-pack, skip-more, some-pack, some-more, without-pack, without-more}
+use Rattle.node.specs.Kind.{kindNumber, EmptyParameterPack, Operator, ParseResult}
 
 skip-none : skipPacks Tree.none ≡ Tree.none
 unfolding skipPacks
@@ -59,10 +60,10 @@ module _ (t y : List ℕ) where
 
   -- the entry of node n
   module _ (n : ℕ) {b k : ℕ} (eb : b ≡ kidOf t n 5) (ek : k ≡ kindOf (treeOf t y b)) where
-    pub pack-is : k ≡ 61 → isPack (treeOf t y (kidOf t n 5)) ≡ true
+    pub pack-is : k ≡ kindNumber EmptyParameterPack → isPack (treeOf t y (kidOf t n 5)) ≡ true
     pack-is e = eq-eqb _ _ (ap (λ r. kindOf (treeOf t y r)) (sym eb) ∙ sym ek ∙ e)
 
-    pub pack-not : (k ≡ 61 → ⊥) → isPack (treeOf t y (kidOf t n 5)) ≡ false
+    pub pack-not : (k ≡ kindNumber EmptyParameterPack → ⊥) → isPack (treeOf t y (kidOf t n 5)) ≡ false
     pack-not z = ne-eqb _ _ (λ q. z (ek ∙ ap (λ r. kindOf (treeOf t y r)) eb ∙ q))
 
   -- a list with a last place
@@ -112,21 +113,21 @@ module _ (t y : List ℕ) where
         by (yes z) = let e : k ≡ 0 = ek ∙ kind-none t y z in absurd (omega arith)
         by (no z) = omega (arith, z)
 
-    pub literal-is : {u : ℕ} → k ≡ 7 → u ≡ cellOf t (r - 1) 7 → isLiteral (treeOf t y r) ≡ eqb u 68
+    pub literal-is : {u : ℕ} → k ≡ kindNumber Operator → u ≡ cellOf t (r - 1) 7 → isLiteral (treeOf t y r) ≡ eqb u 68
     unfolding isLiteral contentOf
     literal-is e eu = let h = kind-low (omega arith) in rw (node-at t y h 7 (ek ∙ kind-is t y h refl) e refl refl refl eu refl refl refl)
 
-    pub guard-is : {u : ℕ} → k ≡ 3 → u ≡ cellOf t (r - 1) 7 → guardOf (treeOf t y r) ≡ u
+    pub guard-is : {u : ℕ} → k ≡ kindNumber ParseResult → u ≡ cellOf t (r - 1) 7 → guardOf (treeOf t y r) ≡ u
     unfolding guardOf contentOf
     guard-is e eu = let h = kind-low (omega arith) in rw (node-at t y h 3 (ek ∙ kind-is t y h refl) e refl refl refl eu refl refl refl)
 
 -- what is of another kind
-pub literal-not : (t : Tree) {k : ℕ} → k ≡ kindOf t → (k ≡ 7 → ⊥) → isLiteral t ≡ false
+pub literal-not : (t : Tree) {k : ℕ} → k ≡ kindOf t → (k ≡ kindNumber Operator → ⊥) → isLiteral t ≡ false
 unfolding isLiteral
 literal-not Tree.none e n = refl
 literal-not (node k x s a b c) e n = rw (ne-eqb k 7 (λ q. n (e ∙ q)))
 
-pub guard-not : (t : Tree) {k : ℕ} → k ≡ kindOf t → (k ≡ 3 → ⊥) → guardOf t ≡ 0
+pub guard-not : (t : Tree) {k : ℕ} → k ≡ kindOf t → (k ≡ kindNumber ParseResult → ⊥) → guardOf t ≡ 0
 unfolding guardOf
 guard-not Tree.none e n = refl
 guard-not (node k x s a b c) e n = rw (ne-eqb k 3 (λ q. n (e ∙ q)))

@@ -29,9 +29,7 @@ NO_MEMBER_TYPE = 512
 abbrev pub MS_TYPENAMES : ℕ
 MS_TYPENAMES = 1024
 
--- known, and does nothing
-abbrev pub «DECODE_32_BIT» : ℕ
-«DECODE_32_BIT» = 2048
+-- 2048, DECODE_32_BIT, is known and does nothing
 
 abbrev pub NAME_ONLY : ℕ
 NAME_ONLY = 4096

@@ -3,7 +3,7 @@ use Prim.Native.Nat.{ℕ, _-_}
 use mathlib.Core.List.{[], _∷_}
 use lib.ListN.{getD}
 use Rattle.scan.specs.Bytes.{pick}
-use Rattle.node.specs.Kind.{ParseResult}
+use Rattle.node.specs.Kind.{kindNumber, ParseResult, Ptr, Alias}
 use Rattle.meaning.specs.Tree.{Tree, node}
 use Rattle.text.specs.Emit.{Text, put, unless}
 use Rattle.serializer.specs.Flags.{has, NO_CLASS_TYPE}
@@ -11,11 +11,11 @@ use Rattle.serializer.specs.Serializer.{isKind, p, noCast, writeCast}
 
 -- Ptr, Ref, RValueRef
 unfoldable pub mark : ℕ → Text
-mark k = put (getD ("*" ∷ "&" ∷ "&&" ∷ []) (k - 28) "")
+mark k = put (getD ("*" ∷ "&" ∷ "&&" ∷ []) (k - kindNumber Ptr) "")
 
 -- Alias, Struct, Union, Class, Enum
 unfoldable pub className : ℕ → ℕ → Text
-className f k = unless (has f NO_CLASS_TYPE) (put (getD ("" ∷ "struct " ∷ "union " ∷ "class " ∷ "enum " ∷ []) (k - 33) ""))
+className f k = unless (has f NO_CLASS_TYPE) (put (getD ("" ∷ "struct " ∷ "union " ∷ "class " ∷ "enum " ∷ []) (k - kindNumber Alias) ""))
 
 -- what write_name is handed by the owner of the symbol: a ParseResult gives its guard and its type
 unfoldable pub guardOf : Tree → ℕ

@@ -10,7 +10,8 @@ use lib.ListN.{getD}
 use Rattle.scan.specs.Bytes.{pick}
 use Rattle.letters.specs.StorageClass.{CONST, VOLATILE, RESTRICT, PTR64, LVALUE_QUAL, RVALUE_QUAL}
 use Rattle.letters.specs.FuncClass.{PUBLIC, PROTECTED, PRIVATE, STATIC, VIRTUAL, THUNK}
-use Rattle.node.specs.Kind.{Kind, ParseResult, Md5, Operator, RttiTypeDescriptor, RttiBaseClassDescriptor, NonTemplate, AsInterface, Template, Discriminator, ParsedName, AnonymousId, Anonymous, MemberFunction, MemberFunctionPointer, NonMemberFunction, CXXVBTable, CXXVFTable, VCallThunk, TemplateParameterWithIndex, ThreadSafeStaticGuard, Constant, Ptr, Ref, RValueRef, Array, Var, Alias, Struct, Union, Class, Enum, VarArgs, EmptyParameterPack, Nullptr, kindNumber}
+use Rattle.operators.specs.Operators.{Ctor, Dtor, Conversion, VBTable, LocalStaticGuard, LiteralOperatorName, LocalStaticThreadGuard}
+use Rattle.node.specs.Kind.{Kind, ParseResult, Md5, Operator, RttiTypeDescriptor, RttiBaseClassDescriptor, NonTemplate, AsInterface, Template, Discriminator, ParsedName, AnonymousId, Anonymous, MemberFunction, MemberFunctionPointer, NonMemberFunction, CXXVBTable, CXXVFTable, VCallThunk, TemplateParameterWithIndex, ThreadSafeStaticGuard, Constant, Ptr, Ref, RValueRef, Array, Var, Alias, Struct, Union, Class, Enum, VarArgs, EmptyParameterPack, Nullptr, kindNumber, Void, Int64, Uint128, Ldouble}
 use Rattle.meaning.specs.Tree.{Tree, node}
 use Rattle.text.specs.Emit.{Text, none, lit, put, _⨾_, when, unless}
 use Rattle.text.specs.Spaces.{or, writeSpacePre, writeSpacePtr, writeSpace, spaceWhere, notSet, afterClose}
@@ -18,18 +19,18 @@ use Rattle.text.specs.Words.{operators, basics, renamed, conventions}
 use Rattle.text.specs.Decimal.{decimal, unsigned}
 use Rattle.serializer.specs.Flags.{has, NO_MS_KEYWORDS, NO_FUNCTION_RETURNS, NO_MS_THISTYPE, NO_CV_THISTYPE, NO_ACCESS_SPECIFIERS, NO_MEMBER_TYPE, MS_TYPENAMES, NAME_ONLY, NO_CLASS_TYPE, SPACE_AFTER_COMMA, HUG_TYPE, SPACE_BEFORE_POINTER, WITH_PTR64}
 
--- a node's four numbers (meaning's numbersOf has the last two first)
+-- a node's four numbers
 abbrev pub p : List ℕ → ℕ
-p x = getD x 2 0
+p x = getD x 0 0
 
 abbrev pub q : List ℕ → ℕ
-q x = getD x 3 0
+q x = getD x 1 0
 
 abbrev pub r : List ℕ → ℕ
-r x = getD x 0 0
+r x = getD x 2 0
 
 abbrev pub s₄ : List ℕ → ℕ
-s₄ x = getD x 1 0
+s₄ x = getD x 3 0
 
 abbrev pub isKind : Kind → ℕ → Bool
 isKind kind k = eqb k (kindNumber kind)
@@ -87,15 +88,15 @@ writeMemfnQualifiers f sc =
     (writeOneQual sc CONST "const" ⨾ writeOneQual sc VOLATILE "volatile" ⨾ when (has f WITH_PTR64) (writeOneQual sc (PTR64) "__ptr64")
     ⨾ writeOneQual sc RESTRICT "__restrict" ⨾ writeOneQual sc LVALUE_QUAL "&" ⨾ writeOneQual sc RVALUE_QUAL "&&")
 
--- Void (38) to Ldouble (59)
 abbrev pub isBasic : ℕ → Bool
-isBasic k = pick (leb 38 k) (leb k 59) false
+isBasic k = pick (leb (kindNumber Void) k) (leb k (kindNumber Ldouble)) false
 
--- the basic types, of which Int64 (49) to Uint128 (52) have two names
+-- the basic types, of which Int64 to Uint128 have two names
 unfoldable pub writeBasic : ℕ → ℕ → Text
 writeBasic f k =
-    pick (pick (has f MS_TYPENAMES) (pick (leb 49 k) (leb k 52) false) false) (put (getD renamed (k - 49) ""))
-    (when (isBasic k) (put (getD basics (k - 38) "")))
+    pick (pick (has f MS_TYPENAMES) (pick (leb (kindNumber Int64) k) (leb k (kindNumber Uint128)) false) false)
+    (put (getD renamed (k - kindNumber Int64) ""))
+    (when (isBasic k) (put (getD basics (k - kindNumber Void) "")))
 
 -- write_pre of the types that hold no other; nothing for None, ConstantString, EmptyParameterPack and RTTIType
 unfoldable pub writePlain : ℕ → ℕ → ℕ → ℕ → Text
@@ -150,9 +151,9 @@ writeTmplParams params types = put "<" ⨾ unless (isEmpty params) (types ⨾ sp
 unfoldable pub writeGuard : ℕ → Text
 writeGuard g = unless (eqb g 0) (put "{" ⨾ lit (unsigned (g - 1)) ⨾ put "}")
 
--- write_operator_name, but for the two RTTI descriptors with operands; 47 and 74 are the guards
+-- write_operator_name, but for the two RTTI descriptors with operands
 unfoldable pub writeOperatorName : ℕ → ℕ → Text
-writeOperatorName g op = put (getD operators op "") ⨾ when (or (eqb op 47) (eqb op 74)) (writeGuard g)
+writeOperatorName g op = put (getD operators op "") ⨾ when (or (eqb op LocalStaticGuard) (eqb op LocalStaticThreadGuard)) (writeGuard g)
 
 -- an operator, and the space before it
 unfoldable pub writeSpacedOperator : ℕ → ℕ → Text
@@ -184,16 +185,16 @@ writeNameSpace f = pick (has f SPACE_BEFORE_POINTER) writeSpacePtr writeSpacePre
 -- is a name the LiteralOperatorName
 unfoldable pub isLiteral : Tree → Bool
 isLiteral Tree.none = false
-isLiteral (node k x s a b c) = pick (isKind Operator k) (eqb (p x) 68) false
+isLiteral (node k x s a b c) = pick (isKind Operator k) (eqb (p x) LiteralOperatorName) false
 
 -- the end of write_name for an operator; `first` is the scope's first name, `cast` what a Conversion is called
 unfoldable pub writeOwnOperator : ℕ → Text → Bool → Text → ℕ → Text
 writeOwnOperator g cast alone first op =
-    pick (eqb op 0) (pick alone (put "[invalid]") first)  -- Ctor
-    (pick (eqb op 1) (pick alone (put "[invalid]") (put "~" ⨾ first))  -- Dtor
-    (pick (eqb op 44) (put "`vbtable'{for `")  -- VBTable
-    (pick (eqb op 11) cast  -- Conversion
-    (pick (eqb op 68) none  -- LiteralOperatorName
+    pick (eqb op Ctor) (pick alone (put "[invalid]") first)
+    (pick (eqb op Dtor) (pick alone (put "[invalid]") (put "~" ⨾ first))
+    (pick (eqb op VBTable) (put "`vbtable'{for `")
+    (pick (eqb op Conversion) cast
+    (pick (eqb op LiteralOperatorName) none
     (writeSpacedOperator g op)))))
 
 -- the end of write_name; `one` is write_one_name of the same name, `parsed` the text of what a ParsedName holds
@@ -204,7 +205,7 @@ writeOwnName g cast alone first (node k x s a b c) one parsed =
 
 -- a Conversion where write_name has no member function's type
 unfoldable pub noCast : Text
-noCast = writeSpacedOperator 0 11
+noCast = writeSpacedOperator 0 Conversion
 
 -- `intersects(NAME_ONLY | NO_FUNCTION_RETURNS)`
 abbrev pub noReturn : ℕ → Bool

@@ -3,14 +3,15 @@ ghost use mathlib.Core.Path.{_≡_};
 ghost use mathlib.Core.List.{List};
 ghost use Prim.Native.Nat.{ℕ, _≤_, _<_, _-_};
 ghost use mathlib.Core.Bool.{false};
-ghost use Rattle.node.specs.Cells.{cellOf};
+ghost use Rattle.node.specs.Cells.{cellOf, B};
 ghost use Rattle.meaning.specs.Tree.{treeOf, kidOf};
 ghost use Rattle.serializer.specs.Serializer.{kindOf, hasSome, isLiteral};
 ghost use Rattle.serializer.specs.Pieces.{guardOf};
 ghost use Rattle.serializer.specs.Lists.{isPack, countSome, skipPacks, withoutLast, firstEntry};
 use meaning::kid;
-
-const PACK: usize = 61;
+use node::cells;
+use node::kinds;
+use operators::LITERAL_OPERATOR_NAME;
 
 // Cell j of node n.
 pub fn number(table: &[u32], n: usize, j: usize) -> u32
@@ -20,21 +21,21 @@ pub fn number(table: &[u32], n: usize, j: usize) -> u32
 }
 
 // The kind of what r names; 0 where it names nothing.
-pub fn kind_at(table: &[u32], r: usize) -> usize
+pub fn kind_at(table: &[u32], r: usize) -> u32
     ensures { λ k. ⌜ ((s : List ℕ) → k ≡ kindOf (treeOf (now (table .entry)) s r)) ⌝ }
 {
     if r == 0 {
         return 0;
     }
-    node::cell(table, r - 1, 0)
+    node::kind(table, r - 1)
 }
 
 // Whether a name is the operator `""`.
 pub fn is_literal(table: &[u32], r: usize) -> bool
     ensures { λ x. ⌜ ((s : List ℕ) → x ≡ isLiteral (treeOf (now (table .entry)) s r)) ⌝ }
 {
-    if kind_at(table, r) == 7 {
-        return node::cell(table, r - 1, 7) == 68;
+    if kind_at(table, r) == kinds::OPERATOR {
+        return number(table, r - 1, cells::P) == LITERAL_OPERATOR_NAME;
     }
     false
 }
@@ -43,8 +44,8 @@ pub fn is_literal(table: &[u32], r: usize) -> bool
 pub fn guard_at(table: &[u32], up: usize) -> u32
     ensures { λ g. ⌜ ((s : List ℕ) → g ≡ guardOf (treeOf (now (table .entry)) s up)) ⌝ }
 {
-    if kind_at(table, up) == 3 {
-        return number(table, up - 1, 7);
+    if kind_at(table, up) == kinds::PARSE_RESULT {
+        return number(table, up - 1, cells::P);
     }
     0
 }
@@ -59,15 +60,15 @@ pub fn has_some(table: &[u32], r: usize) -> bool
 
 // The list up to its last entry that is not an empty pack.
 pub fn skip_packs(table: &[u32], r: usize) -> usize
-    ensures { λ p. ⌜ ((s : List ℕ) → treeOf (now (table .entry)) s p ≡ skipPacks (treeOf (now (table .entry)) s r)) × (p ≤ r) × (0 < p → (s : List ℕ) → isPack (treeOf (now (table .entry)) s (kidOf (now (table .entry)) (p - 1) 5)) ≡ false) ⌝ }
+    ensures { λ p. ⌜ ((s : List ℕ) → treeOf (now (table .entry)) s p ≡ skipPacks (treeOf (now (table .entry)) s r)) × (p ≤ r) × (0 < p → (s : List ℕ) → isPack (treeOf (now (table .entry)) s (kidOf (now (table .entry)) (p - 1) B)) ≡ false) ⌝ }
 {
     let mut p = r;
     while 0 < p {
         let i = p - 1;
-        if kind_at(table, kid(table, i, 5)) != PACK {
+        if kind_at(table, kid(table, i, cells::B)) != kinds::EMPTY_PARAMETER_PACK {
             break;
         }
-        p = kid(table, i, 4);
+        p = kid(table, i, cells::A);
     }
     p
 }
@@ -79,7 +80,7 @@ pub fn count_some(table: &[u32], r: usize) -> usize
     let mut n = 0;
     let mut p = skip_packs(table, r);
     while 0 < p {
-        p = skip_packs(table, kid(table, p - 1, 4));
+        p = skip_packs(table, kid(table, p - 1, cells::A));
         n += 1;
     }
     n
@@ -96,7 +97,7 @@ pub fn without_last(table: &[u32], r: usize, h: usize) -> usize
         if q == 0 {
             return 0;
         }
-        p = kid(table, q - 1, 4);
+        p = kid(table, q - 1, cells::A);
         i -= 1;
     }
     p
@@ -110,9 +111,9 @@ pub fn first_entry(table: &[u32], r: usize) -> usize
     let mut p = r;
     loop {
         let i = p - 1;
-        let before = kid(table, i, 4);
+        let before = kid(table, i, cells::A);
         if before == 0 {
-            break kid(table, i, 5);
+            break kid(table, i, cells::B);
         }
         p = before;
     }

@@ -3,15 +3,17 @@ ghost use Rattle.text.specs.Emit.{Wrote, lit, put, unless};
 ghost use Rattle.text.specs.Spaces.{or};
 ghost use Rattle.meaning.specs.Tree.{part};
 ghost use Rattle.serializer.specs.Serializer.{writeGuard, writeOperatorName, writeSpacedOperator, writeBaseClassDescriptor, writePlainName, writeNameSpace};
+use crate::flags::SPACE_BEFORE_POINTER;
 use crate::types::put_next;
+use node::kinds;
+use operators::LOCAL_STATIC_GUARD;
+use operators::LOCAL_STATIC_THREAD_GUARD;
 use text::buffer::put;
 use text::buffer::put_bytes;
 use text::decimal::put_decimal;
 use text::decimal::put_unsigned;
 use text::spaces::put_space;
 use text::words::put_word;
-
-const SPACE_BEFORE_POINTER: u32 = 8388608;
 
 // The n bytes of the symbol from s on.
 pub fn put_part(symbol: &[u8], text: &mut [u8], o: usize, s: usize, n: usize) -> usize
@@ -21,27 +23,27 @@ pub fn put_part(symbol: &[u8], text: &mut [u8], o: usize, s: usize, n: usize) ->
 }
 
 // The names that hold no other; the bytes are the n from m on.
-pub fn put_plain_name(symbol: &[u8], text: &mut [u8], o: usize, k: usize, m: u32, n: u32) -> usize
+pub fn put_plain_name(symbol: &[u8], text: &mut [u8], o: usize, k: u32, m: u32, n: u32) -> usize
     ensures { λ r. ⌜ Wrote (writePlainName k m (part (now (symbol .entry)) m n)) (now (text .entry)) o (now (text .exit)) r ⌝ }
 {
     match k {
-        10 => put_part(symbol, text, o, m as usize, n as usize),
-        6 => {
+        kinds::NON_TEMPLATE => put_part(symbol, text, o, m as usize, n as usize),
+        kinds::MD5 => {
             let o1 = put_word(text, o, text::words::MD5);
             let o2 = put_part(symbol, text, o1, m as usize, n as usize);
             put(text, o2, b'@')
         }
-        11 => {
+        kinds::AS_INTERFACE => {
             let o1 = put(text, o, b'[');
             let o2 = put_part(symbol, text, o1, m as usize, n as usize);
             put(text, o2, b']')
         }
-        13 => {
+        kinds::DISCRIMINATOR => {
             let o1 = put(text, o, b'`');
             let o2 = put_decimal(text, o1, m);
             put(text, o2, b'\'')
         }
-        15..=16 => put_word(text, o, text::words::ANONYMOUS),
+        kinds::ANONYMOUS_ID..=kinds::ANONYMOUS => put_word(text, o, text::words::ANONYMOUS),
         _ => o,
     }
 }
@@ -58,19 +60,22 @@ pub fn put_guard(text: &mut [u8], o: usize, g: u32) -> usize
     put(text, o2, b'}')
 }
 
+// The last operator that is its word alone.
+const LAST_PLAIN: u32 = LOCAL_STATIC_THREAD_GUARD - 1;
+
 pub fn put_operator_name(text: &mut [u8], o: usize, g: u32, op: u32) -> usize
     ensures { λ r. ⌜ Wrote (writeOperatorName g op) (now (text .entry)) o (now (text .exit)) r ⌝ }
 {
     match op {
-        47 => {
+        LOCAL_STATIC_GUARD => {
             let o1 = put_word(text, o, text::words::GUARD);
             put_guard(text, o1, g)
         }
-        74 => {
+        LOCAL_STATIC_THREAD_GUARD => {
             let o1 = put_word(text, o, text::words::THREAD_GUARD);
             put_guard(text, o1, g)
         }
-        0..=73 => put_word(text, o, op as usize),
+        0..=LAST_PLAIN => put_word(text, o, op as usize),
         _ => o,
     }
 }

@@ -35,6 +35,7 @@ use Rattle.steps.specs.declared.state.Spot.{Spot}
 use Rattle.steps.specs.declared.state.Value.{Value}
 use Rattle.steps.specs.declared.state.Value.the-variants.{Is}
 use Rattle.steps.specs.declared.state.Took.{Took}
+use Rattle.scan.specs.Limits.{longestSymbol, Short}
 
 -- the number of an answer is below a bound
 abbrev Below : ℕ → Leaf → Type 0
@@ -105,11 +106,11 @@ abbrev pub EncodedRoom : ℕ → Encoded → Type 0
 EncodedRoom at (encoded.Chars long start n) = (start ≤ n) × (at + n < 65536)
 EncodedRoom at (encoded.Bad n) = at + n < 65536
 
-room-encoded : (at most : ℕ) (e : Encoded) → EncodedFits most e → most ≤ 4096 - at → at < 65536 → EncodedRoom at e
+room-encoded : (at most : ℕ) (e : Encoded) → EncodedFits most e → most ≤ longestSymbol - at → at < 65536 → EncodedRoom at e
 room-encoded at most (encoded.Chars long start n) f h l = (f .1, omega arith)
 room-encoded at most (encoded.Bad n) f h l = omega arith
 
-module _ (s : List ℕ) (at : ℕ) (short : length s ≤ 4096) (low : at < 65536) where
+module _ (s : List ℕ) (at : ℕ) (short : Short s) (low : at < 65536) where
   pub parse-room : {b : ParseStart} → b ≡ parseStart (drop at s) → at + b .taken < 65536
   parse-room e = rw e (place-room s at (parseStart (drop at s) .taken) short low (parse-fits (drop at s)))
 
@@ -125,5 +126,5 @@ module _ (s : List ℕ) (at : ℕ) (short : length s ≤ 4096) (low : at < 65536
   -- by the case that was found
   pub encoded-room : (width : ℕ) {e x : Encoded} → e ≡ readEncodedString width (drop at s) → e ≡ x → EncodedRoom at x
   encoded-room width e f =
-      let l : length (drop at s) ≤ 4096 - at = rw (length-drop at s) (omega arith) in
+      let l : length (drop at s) ≤ longestSymbol - at = rw (length-drop at s) (omega arith) in
       subst (EncodedRoom at) (sym e ∙ f) (room-encoded at (length (drop at s)) (readEncodedString width (drop at s)) (encoded-fits width (drop at s)) l low)

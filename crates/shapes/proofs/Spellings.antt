@@ -21,9 +21,10 @@ use Rattle.steps.specs.Does.{full, Lent, further, does, Leads}
 use Rattle.steps.specs.declared.state.Spot.{Spot}
 use Rattle.steps.proofs.Leads.{leads-ordered}
 use Rattle.shapes.specs.Shapes.{basicOf}
+use Rattle.scan.specs.Limits.{Short}
 
 -- places stay within sixteen bits
-pub place-room : (s : List ℕ) (at n : ℕ) → length s ≤ 4096 → at < 65536 → n ≤ length (drop at s) → at + n < 65536
+pub place-room : (s : List ℕ) (at n : ℕ) → Short s → at < 65536 → n ≤ length (drop at s) → at + n < 65536
 place-room s at n short low h = let e = length-drop at s in omega arith
 
 start-fits : (r : List ℕ) → typeStart r .taken ≤ length r
@@ -34,10 +35,10 @@ head-fits : (r : List ℕ) → typeLetter r .taken ≤ length r
 unfolding typeLetter
 head-fits r = spelled-fits head (λ (h : TypeHead). h .taken) (λ x n. refl) typeLetters (head letter.Refused (upTo (pick (starts (bytes "_") r) 2 1) r)) r (omega arith)
 
-pub start-room : (s : List ℕ) (at : ℕ) → length s ≤ 4096 → at < 65536 → {b : TypeStart} → b ≡ typeStart (drop at s) → at + b .taken < 65536
+pub start-room : (s : List ℕ) (at : ℕ) → Short s → at < 65536 → {b : TypeStart} → b ≡ typeStart (drop at s) → at + b .taken < 65536
 start-room s at short low e = rw e (place-room s at (typeStart (drop at s) .taken) short low (start-fits (drop at s)))
 
-pub head-room : (s : List ℕ) (at : ℕ) → length s ≤ 4096 → at < 65536 → {h : TypeHead} → h ≡ typeLetter (drop at s) → at + h .taken < 65536
+pub head-room : (s : List ℕ) (at : ℕ) → Short s → at < 65536 → {h : TypeHead} → h ≡ typeLetter (drop at s) → at + h .taken < 65536
 head-room s at short low e = rw e (place-room s at (typeLetter (drop at s) .taken) short low (head-fits (drop at s)))
 
 -- the largest number among a table's values

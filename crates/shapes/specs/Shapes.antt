@@ -11,7 +11,7 @@ use Rattle.forms.specs.declared.types.TypeLetter.{TypeLetter}
 use Rattle.forms.specs.declared.types.TypeLetter.the-variants as letter
 use Rattle.grammar.specs.Program.{ret, fail, part, node}
 use Rattle.grammar.specs.Words.{_>>=_, _>>_, _⇒_∥_, expect, leaf, class, memorizeName, nameOf, number}
-use Rattle.node.specs.Kind.{RttiTypeDescriptor, RttiBaseClassDescriptor, Operator, ParsedName, NonMemberFunction, VCallThunk, Var}
+use Rattle.node.specs.Kind.{kindNumber, NonTemplate, RttiTypeDescriptor, RttiBaseClassDescriptor, Operator, ParsedName, NonMemberFunction, VCallThunk, Var}
 use Rattle.grammar.specs.Grammar.{Reading, Parse, Func, close, to, name′, varType, pointee, array, memberFunctionPointer, funcType, funcReturnType, funcParams, memberFunction, plainFunction, scope, templateName, nestedOf, specialName, isGuard}
 use Rattle.steps.specs.declared.state.Spot.{Spot}
 use Rattle.ends.specs.Ends.{leafName, storedUnless}
@@ -176,7 +176,7 @@ shapeUnqualified function unqualified.Template = do
   n ← templateName
   storedUnless function n
 shapeUnqualified function unqualified.Special = specialName
-shapeUnqualified function (unqualified.Plain start length) = unguarded (leafName 10 start length true)
+shapeUnqualified function (unqualified.Plain start length) = unguarded (leafName (kindNumber NonTemplate) start length true)
 shapeUnqualified function unqualified.Refused = fail
 
 -- special names

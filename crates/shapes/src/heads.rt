@@ -6,6 +6,11 @@ ghost use Rattle.grammar.specs.Grammar.{funcType, memberFunction, plainFunction
 ghost use Rattle.shapes.specs.declared.symbols.SymbolShape.the-variants.{Function};
 ghost use Rattle.steps.specs.Does.{Classes, Leads};
 ghost use Rattle.shapes.specs.Shapes.{shapeSymbol, signed, headed, headedAt, refusedHead, conventions, functionRest, variableClass, ptr64Class};
+ghost use Rattle.scan.specs.Limits.{Short};
+ghost use Rattle.letters.specs.StorageClass.{PTR64};
+use letters::function;
+use letters::storage;
+use node::kinds;
 use steps::leaves::calling_conv;
 use steps::leaves::expect;
 use steps::leaves::func_class;
@@ -78,7 +83,7 @@ fn bad(st: Spot) -> Headed
 
 // A convention and the class of the return, into a signature that lacks them.
 fn conventions(s: &[u8], st: Spot, x: Signature) -> Headed
-    requires { ⌜ length (now s) ≤ 4096 ⌝ }
+    requires { ⌜ Short (now s) ⌝ }
     ensures { λ r. ⌜ Leads (now (s .entry)) (conventions x) st (headed r) (r .state) ⌝ }
 {
     let c = calling_conv(s, st);
@@ -109,7 +114,7 @@ fn conventions(s: &[u8], st: Spot, x: Signature) -> Headed
 
 // `?` and a class, or nothing.
 fn variable_class(s: &[u8], st: Spot) -> Classed
-    requires { ⌜ length (now s) ≤ 4096 ⌝ }
+    requires { ⌜ Short (now s) ⌝ }
     ensures { λ r. ⌜ Classes (now (s .entry)) variableClass st r ⌝ }
 {
     let e = expect(b"?", s, st);
@@ -122,7 +127,7 @@ fn variable_class(s: &[u8], st: Spot) -> Classed
 
 // read_func_type, behind its qualifiers.
 fn function_rest(s: &[u8], st: Spot, class: u32) -> Headed
-    requires { ⌜ length (now s) ≤ 4096 ⌝ }
+    requires { ⌜ Short (now s) ⌝ }
     ensures { λ r. ⌜ Leads (now (s .entry)) (functionRest class) st (headed r) (r .state) ⌝ }
 {
     let c = calling_conv(s, st);
@@ -130,7 +135,10 @@ fn function_rest(s: &[u8], st: Spot, class: u32) -> Headed
     match v {
         Value::Is(conv) => {
             let k = variable_class(s, c.state);
-            headed_at(signature_of(20, class, conv, 0, 0, k.bits, false), k.state)
+            headed_at(
+                signature_of(kinds::NON_MEMBER_FUNCTION, class, conv, 0, 0, k.bits, false),
+                k.state,
+            )
         }
         Value::Bad => bad(c.state),
     }
@@ -138,7 +146,7 @@ fn function_rest(s: &[u8], st: Spot, class: u32) -> Headed
 
 // read_func_type
 pub fn function_head(s: &[u8], st: Spot, qualifiers: bool) -> Headed
-    requires { ⌜ length (now s) ≤ 4096 ⌝ }
+    requires { ⌜ Short (now s) ⌝ }
     ensures { λ r. ⌜ Leads (now (s .entry)) (funcType qualifiers) st (headed r) (r .state) ⌝ }
 {
     if qualifiers {
@@ -150,21 +158,25 @@ pub fn function_head(s: &[u8], st: Spot, qualifiers: bool) -> Headed
 
 // A function that is no member.
 fn plain_head(s: &[u8], st: Spot) -> Headed
-    requires { ⌜ length (now s) ≤ 4096 ⌝ }
+    requires { ⌜ Short (now s) ⌝ }
     ensures { λ r. ⌜ Leads (now (s .entry)) plainFunction st (headed r) (r .state) ⌝ }
 {
-    conventions(s, st, signature_of(20, 0, 0, 0, 0, 0, false))
+    conventions(
+        s,
+        st,
+        signature_of(kinds::NON_MEMBER_FUNCTION, 0, 0, 0, 0, 0, false),
+    )
 }
 
 fn is_static(class: u32) -> bool
     ensures { λ r. ⌜ r ≡ isStatic class ⌝ }
 {
-    class / 16 % 2 == 1
+    class / function::STATIC % 2 == 1
 }
 
 // A member function: a static one has no qualifiers.
 fn member_head(s: &[u8], st: Spot) -> Headed
-    requires { ⌜ length (now s) ≤ 4096 ⌝ }
+    requires { ⌜ Short (now s) ⌝ }
     ensures { λ r. ⌜ Leads (now (s .entry)) memberFunction st (headed r) (r .state) ⌝ }
 {
     let c = func_class(s, st);
@@ -172,10 +184,18 @@ fn member_head(s: &[u8], st: Spot) -> Headed
     match v {
         Value::Is(class) => {
             if is_static(class) {
-                return conventions(s, c.state, signature_of(18, 0, 0, class, 0, 0, true));
+                return conventions(
+                    s,
+                    c.state,
+                    signature_of(kinds::MEMBER_FUNCTION, 0, 0, class, 0, 0, true),
+                );
             }
             let q = func_qualifiers(s, c.state);
-            conventions(s, q.state, signature_of(18, q.bits, 0, class, 0, 0, true))
+            conventions(
+                s,
+                q.state,
+                signature_of(kinds::MEMBER_FUNCTION, q.bits, 0, class, 0, 0, true),
+            )
         }
         Value::Bad => bad(c.state),
     }
@@ -183,7 +203,7 @@ fn member_head(s: &[u8], st: Spot) -> Headed
 
 // The type of a symbol that is a function, a member or not.
 pub fn symbol_head(s: &[u8], st: Spot, member: bool) -> Headed
-    requires { ⌜ length (now s) ≤ 4096 ⌝ }
+    requires { ⌜ Short (now s) ⌝ }
     ensures { λ r. ⌜ Leads (now (s .entry)) (shapeSymbol (Function member)) st (headed r) (r .state) ⌝ }
 {
     if member {
@@ -195,25 +215,26 @@ pub fn symbol_head(s: &[u8], st: Spot, member: bool) -> Headed
 
 // `E`, or nothing.
 fn ptr64(s: &[u8], st: Spot) -> Classed
-    requires { ⌜ length (now s) ≤ 4096 ⌝ }
+    requires { ⌜ Short (now s) ⌝ }
     ensures { λ r. ⌜ Classes (now (s .entry)) ptr64Class st r ⌝ }
-    ensures { λ r. ⌜ r .bits ≤ 64 ⌝ }
+    ensures { λ r. ⌜ r .bits ≤ PTR64 ⌝ }
 {
     let e = expect(b"E", s, st);
     let v = e.value;
     let next = e.state;
     match v {
         Value::Is(_) => Classed {
-            bits: 64,
+            bits: storage::PTR64,
             state: next,
         },
         Value::Bad => Classed { bits: 0, state: st },
     }
 }
 
-// A pointer to a member function, behind its name: a qualifier and no function class, or the other way round.
+// A pointer to a member function, behind its name: a qualifier and no function class, or the other way round, each with
+// a signature that the layout spreads over a line for each number.
 pub fn pointer_head(s: &[u8], st: Spot, name: u16, qualifiers: bool) -> Headed
-    requires { ⌜ length (now s) ≤ 4096 ⌝ }
+    requires { ⌜ Short (now s) ⌝ }
     ensures { λ r. ⌜ Leads (now (s .entry)) (memberPointer qualifiers name) st (headed r) (r .state) ⌝ }
 {
     let e = ptr64(s, st);
@@ -223,7 +244,15 @@ pub fn pointer_head(s: &[u8], st: Spot, name: u16, qualifiers: bool) -> Headed
         return conventions(
             s,
             q.state,
-            signature_of(19, q.bits + e.bits, 0, 0, third, 0, true),
+            signature_of(
+                kinds::MEMBER_FUNCTION_POINTER,
+                q.bits + e.bits,
+                0,
+                0,
+                third,
+                0,
+                true,
+            ),
         );
     }
     let c = func_class(s, e.state);
@@ -232,7 +261,15 @@ pub fn pointer_head(s: &[u8], st: Spot, name: u16, qualifiers: bool) -> Headed
         Value::Is(class) => conventions(
             s,
             c.state,
-            signature_of(19, e.bits, 0, class, third, 0, true),
+            signature_of(
+                kinds::MEMBER_FUNCTION_POINTER,
+                e.bits,
+                0,
+                class,
+                third,
+                0,
+                true,
+            ),
         ),
         Value::Bad => bad(c.state),
     }

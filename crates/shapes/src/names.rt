@@ -7,8 +7,12 @@ ghost use Rattle.grammar.specs.Grammar.{unqualifiedBody, nestedBody, nestedOf, 
 ghost use Rattle.forms.specs.declared.begins.NameForm.the-variants.{AnonymousId, Anonymous, Interface, Discriminator};
 ghost use Rattle.steps.specs.Does.{Leads};
 ghost use Rattle.shapes.specs.Shapes.{shapeUnqualified, shapeName, nameFormOf, shapeSpecial, unguarded, baseEnd};
+ghost use Rattle.scan.specs.Limits.{Short};
 use ends::less_one;
 use forms::begins::NameForm;
+use node::kinds;
+use operators::RTTI_BASE_CLASS_DESCRIPTOR;
+use operators::RTTI_TYPE_DESCRIPTOR;
 use steps::leaves::expect;
 use steps::leaves::number;
 use steps::leaves::operator;
@@ -42,14 +46,14 @@ fn shaped(shape: NameShape, st: Spot) -> NameShaped
 
 // A plain name.
 fn plain_shape(s: &[u8], st: Spot) -> NameShaped
-    requires { ⌜ length (now s) ≤ 4096 ⌝ }
+    requires { ⌜ Short (now s) ⌝ }
     ensures { λ r. ⌜ Leads (now (s .entry)) plainName st (shapeName (r .shape)) (r .state) ⌝ }
 {
     let k = string(s, st);
     let v = k.value;
     match v {
         Value::Is(n) => shaped(
-            NameShape::Leaf(10, st.at as u32, less_one(n), true),
+            NameShape::Leaf(kinds::NON_TEMPLATE, st.at as u32, less_one(n), true),
             k.state,
         ),
         Value::Bad => shaped(NameShape::Refused, k.state),
@@ -57,7 +61,7 @@ fn plain_shape(s: &[u8], st: Spot) -> NameShaped
 }
 
 fn anonymous_id(s: &[u8], st: Spot) -> NameShaped
-    requires { ⌜ length (now s) ≤ 4096 ⌝ }
+    requires { ⌜ Short (now s) ⌝ }
     ensures { λ r. ⌜ Leads (now (s .entry)) (nestedOf AnonymousId) st (shapeName (r .shape)) (r .state) ⌝ }
 {
     let n = scan::name::read_hex_digits(s, st.at as usize);
@@ -65,7 +69,12 @@ fn anonymous_id(s: &[u8], st: Spot) -> NameShaped
     let v = e.value;
     match v {
         Value::Is(_) => shaped(
-            NameShape::Leaf(15, less_one(less_one(st.at as u32)), (n + 2) as u32, true),
+            NameShape::Leaf(
+                kinds::ANONYMOUS_ID,
+                less_one(less_one(st.at as u32)),
+                (n + 2) as u32,
+                true,
+            ),
             e.state,
         ),
         Value::Bad => shaped(NameShape::Refused, e.state),
@@ -73,19 +82,19 @@ fn anonymous_id(s: &[u8], st: Spot) -> NameShaped
 }
 
 fn anonymous(s: &[u8], st: Spot) -> NameShaped
-    requires { ⌜ length (now s) ≤ 4096 ⌝ }
+    requires { ⌜ Short (now s) ⌝ }
     ensures { λ r. ⌜ Leads (now (s .entry)) (nestedOf Anonymous) st (shapeName (r .shape)) (r .state) ⌝ }
 {
     let e = expect(b"@", s, st);
     let v = e.value;
     match v {
-        Value::Is(_) => shaped(NameShape::Leaf(16, 0, 0, false), e.state),
+        Value::Is(_) => shaped(NameShape::Leaf(kinds::ANONYMOUS, 0, 0, false), e.state),
         Value::Bad => shaped(NameShape::Refused, e.state),
     }
 }
 
 fn interface(s: &[u8], st: Spot) -> NameShaped
-    requires { ⌜ length (now s) ≤ 4096 ⌝ }
+    requires { ⌜ Short (now s) ⌝ }
     ensures { λ r. ⌜ Leads (now (s .entry)) (nestedOf Interface) st (shapeName (r .shape)) (r .state) ⌝ }
 {
     let k = string(s, st);
@@ -96,7 +105,7 @@ fn interface(s: &[u8], st: Spot) -> NameShaped
             let w = e.value;
             match w {
                 Value::Is(_) => shaped(
-                    NameShape::Leaf(11, st.at as u32, less_one(n), true),
+                    NameShape::Leaf(kinds::AS_INTERFACE, st.at as u32, less_one(n), true),
                     e.state,
                 ),
                 Value::Bad => shaped(NameShape::Refused, e.state),
@@ -107,19 +116,19 @@ fn interface(s: &[u8], st: Spot) -> NameShaped
 }
 
 fn discriminator(s: &[u8], st: Spot) -> NameShaped
-    requires { ⌜ length (now s) ≤ 4096 ⌝ }
+    requires { ⌜ Short (now s) ⌝ }
     ensures { λ r. ⌜ Leads (now (s .entry)) (nestedOf Discriminator) st (shapeName (r .shape)) (r .state) ⌝ }
 {
     let k = number(s, st);
     let v = k.value;
     match v {
-        Value::Is(n) => shaped(NameShape::Leaf(13, n, 0, false), k.state),
+        Value::Is(n) => shaped(NameShape::Leaf(kinds::DISCRIMINATOR, n, 0, false), k.state),
         Value::Bad => shaped(NameShape::Refused, k.state),
     }
 }
 
 fn form_shape(s: &[u8], st: Spot, f: NameForm) -> NameShaped
-    requires { ⌜ length (now s) ≤ 4096 ⌝ }
+    requires { ⌜ Short (now s) ⌝ }
     ensures { λ r. ⌜ Leads (now (s .entry)) (nameFormOf f) st (shapeName (r .shape)) (r .state) ⌝ }
 {
     match f {
@@ -136,7 +145,7 @@ fn form_shape(s: &[u8], st: Spot, f: NameForm) -> NameShaped
 
 // read_nested_name, up to its first part.
 pub fn name_shape(s: &[u8], st: Spot) -> NameShaped
-    requires { ⌜ length (now s) ≤ 4096 ⌝ }
+    requires { ⌜ Short (now s) ⌝ }
     ensures { λ r. ⌜ Leads (now (s .entry)) nestedBody st (shapeName (r .shape)) (r .state) ⌝ }
 {
     let b = forms::begins::name_start(s, st.at as usize);
@@ -164,7 +173,7 @@ fn special(shape: SpecialShape, st: Spot) -> SpecialShaped
 }
 
 fn type_descriptor(s: &[u8], st: Spot) -> SpecialShaped
-    requires { ⌜ length (now s) ≤ 4096 ⌝ }
+    requires { ⌜ Short (now s) ⌝ }
     ensures { λ r. ⌜ Leads (now (s .entry)) (unguarded rttiTypeDescriptor) st (shapeSpecial (r .shape)) (r .state) ⌝ }
 {
     let e = expect(b"?", s, st);
@@ -180,7 +189,7 @@ fn type_descriptor(s: &[u8], st: Spot) -> SpecialShaped
 
 // The last two numbers of a base class's descriptor.
 fn base_end(s: &[u8], st: Spot, p: u32, q: u32) -> SpecialShaped
-    requires { ⌜ length (now s) ≤ 4096 ⌝ }
+    requires { ⌜ Short (now s) ⌝ }
     ensures { λ r. ⌜ Leads (now (s .entry)) (unguarded (baseEnd p q)) st (shapeSpecial (r .shape)) (r .state) ⌝ }
 {
     let c = number(s, st);
@@ -199,7 +208,7 @@ fn base_end(s: &[u8], st: Spot, p: u32, q: u32) -> SpecialShaped
 }
 
 fn base_descriptor(s: &[u8], st: Spot) -> SpecialShaped
-    requires { ⌜ length (now s) ≤ 4096 ⌝ }
+    requires { ⌜ Short (now s) ⌝ }
     ensures { λ r. ⌜ Leads (now (s .entry)) (unguarded rttiBaseClassDescriptor) st (shapeSpecial (r .shape)) (r .state) ⌝ }
 {
     let a = number(s, st);
@@ -219,17 +228,17 @@ fn base_descriptor(s: &[u8], st: Spot) -> SpecialShaped
 
 // read_special_name, up to its first part.
 pub fn special_shape(s: &[u8], st: Spot) -> SpecialShaped
-    requires { ⌜ length (now s) ≤ 4096 ⌝ }
+    requires { ⌜ Short (now s) ⌝ }
     ensures { λ r. ⌜ Leads (now (s .entry)) specialName st (shapeSpecial (r .shape)) (r .state) ⌝ }
 {
     let k = operator(s, st);
     let v = k.value;
     match v {
         Value::Is(op) => {
-            if op == 75 {
+            if op == RTTI_TYPE_DESCRIPTOR {
                 return type_descriptor(s, k.state);
             }
-            if op == 76 {
+            if op == RTTI_BASE_CLASS_DESCRIPTOR {
                 return base_descriptor(s, k.state);
             }
             special(SpecialShape::Operator(op), k.state)
@@ -258,7 +267,7 @@ fn unqualified(shape: UnqualifiedShape, st: Spot) -> UnqualifiedShaped
 }
 
 fn unqualified_plain(s: &[u8], st: Spot) -> UnqualifiedShaped
-    requires { ⌜ length (now s) ≤ 4096 ⌝ }
+    requires { ⌜ Short (now s) ⌝ }
     ensures { λ r. ⌜ ((function : Bool) → Leads (now (s .entry)) (unguarded plainName) st (shapeUnqualified function (r .shape)) (r .state)) ⌝ }
 {
     let k = string(s, st);
@@ -271,7 +280,7 @@ fn unqualified_plain(s: &[u8], st: Spot) -> UnqualifiedShaped
 
 // read_unqualified_name, up to its first part.
 pub fn unqualified_shape(s: &[u8], st: Spot) -> UnqualifiedShaped
-    requires { ⌜ length (now s) ≤ 4096 ⌝ }
+    requires { ⌜ Short (now s) ⌝ }
     ensures { λ r. ⌜ ((function : Bool) → Leads (now (s .entry)) (unqualifiedBody function) st (shapeUnqualified function (r .shape)) (r .state)) ⌝ }
 {
     let e = expect(b"?$", s, st);

@@ -10,8 +10,10 @@ ghost use Rattle.forms.specs.declared.begins.ParseForm.the-variants.{Name};
 ghost use Rattle.grammar.specs.Words.{ordered};
 ghost use Rattle.steps.specs.Does.{Values, Leads};
 ghost use Rattle.shapes.specs.Shapes.{shapeSymbol, tableOf, thunkEnd};
+ghost use Rattle.scan.specs.Limits.{Short};
 use forms::begins::ParseForm;
 use forms::begins::SymbolForm;
+use node::kinds;
 use steps::leaves::calling_conv;
 use steps::leaves::expect;
 use steps::leaves::guard_marker;
@@ -49,7 +51,7 @@ fn shaped(shape: SymbolShape, st: Spot) -> SymbolShaped
 }
 
 fn table(s: &[u8], st: Spot, kind: u32) -> SymbolShaped
-    requires { ⌜ length (now s) ≤ 4096 ⌝ }
+    requires { ⌜ Short (now s) ⌝ }
     ensures { λ r. ⌜ Leads (now (s .entry)) (tableOf kind) st (shapeSymbol (r .shape)) (r .state) ⌝ }
 {
     let q = qualifier(s, st);
@@ -58,7 +60,7 @@ fn table(s: &[u8], st: Spot, kind: u32) -> SymbolShaped
 
 // An encoded string of a width: the node has the range of its characters.
 fn characters(s: &[u8], st: Spot, width: u32) -> SymbolShaped
-    requires { ⌜ length (now s) ≤ 4096 ⌝ }
+    requires { ⌜ Short (now s) ⌝ }
     requires { ⌜ width < 256 ⌝ }
     ensures { λ r. ⌜ Leads (now (s .entry)) (encodedString width) st (shapeSymbol (r .shape)) (r .state) ⌝ }
 {
@@ -69,7 +71,11 @@ fn characters(s: &[u8], st: Spot, width: u32) -> SymbolShaped
             start,
             taken,
         } => shaped(
-            SymbolShape::Leaf(27, (st.at as u32) + (start as u32), (taken - start) as u32),
+            SymbolShape::Leaf(
+                kinds::CONSTANT_STRING,
+                (st.at as u32) + (start as u32),
+                (taken - start) as u32,
+            ),
             past(st, taken),
         ),
         Encoded::Bad(n) => shaped(SymbolShape::Refused, past(st, n)),
@@ -77,7 +83,7 @@ fn characters(s: &[u8], st: Spot, width: u32) -> SymbolShaped
 }
 
 fn string(s: &[u8], st: Spot) -> SymbolShaped
-    requires { ⌜ length (now s) ≤ 4096 ⌝ }
+    requires { ⌜ Short (now s) ⌝ }
     ensures { λ r. ⌜ Leads (now (s .entry)) (symbolTypeOf String) st (shapeSymbol (r .shape)) (r .state) ⌝ }
 {
     let w = string_width(s, st);
@@ -90,7 +96,7 @@ fn string(s: &[u8], st: Spot) -> SymbolShaped
 
 // A thunk, behind `$B` and its offset.
 fn thunk_end(s: &[u8], st: Spot, offset: u32) -> SymbolShaped
-    requires { ⌜ length (now s) ≤ 4096 ⌝ }
+    requires { ⌜ Short (now s) ⌝ }
     ensures { λ r. ⌜ Leads (now (s .entry)) (thunkEnd offset) st (shapeSymbol (r .shape)) (r .state) ⌝ }
 {
     let e = expect(b"A", s, st);
@@ -100,7 +106,10 @@ fn thunk_end(s: &[u8], st: Spot, offset: u32) -> SymbolShaped
             let c = calling_conv(s, e.state);
             let k = c.value;
             match k {
-                Value::Is(conv) => shaped(SymbolShape::Leaf(23, offset, conv), c.state),
+                Value::Is(conv) => shaped(
+                    SymbolShape::Leaf(kinds::VCALL_THUNK, offset, conv),
+                    c.state,
+                ),
                 Value::Bad => shaped(SymbolShape::Refused, c.state),
             }
         }
@@ -109,7 +118,7 @@ fn thunk_end(s: &[u8], st: Spot, offset: u32) -> SymbolShaped
 }
 
 fn thunk(s: &[u8], st: Spot) -> SymbolShaped
-    requires { ⌜ length (now s) ≤ 4096 ⌝ }
+    requires { ⌜ Short (now s) ⌝ }
     ensures { λ r. ⌜ Leads (now (s .entry)) (symbolTypeOf VCallThunk) st (shapeSymbol (r .shape)) (r .state) ⌝ }
 {
     let e = expect(b"B", s, st);
@@ -128,26 +137,26 @@ fn thunk(s: &[u8], st: Spot) -> SymbolShaped
 }
 
 fn form_shape(s: &[u8], st: Spot, f: SymbolForm) -> SymbolShaped
-    requires { ⌜ length (now s) ≤ 4096 ⌝ }
+    requires { ⌜ Short (now s) ⌝ }
     ensures { λ r. ⌜ Leads (now (s .entry)) (symbolTypeOf f) st (shapeSymbol (r .shape)) (r .state) ⌝ }
 {
     match f {
         SymbolForm::Variable(k) => shaped(SymbolShape::Variable(k), st),
-        SymbolForm::VFTable => table(s, st, 22),
-        SymbolForm::VBTable => table(s, st, 21),
-        SymbolForm::ExternC => shaped(SymbolShape::Leaf(17, 0, 0), st),
+        SymbolForm::VFTable => table(s, st, kinds::VFTABLE),
+        SymbolForm::VBTable => table(s, st, kinds::VBTABLE),
+        SymbolForm::ExternC => shaped(SymbolShape::Leaf(kinds::NONE, 0, 0), st),
         SymbolForm::Function => shaped(SymbolShape::Function(false), st),
         SymbolForm::String => string(s, st),
         SymbolForm::VCallThunk => thunk(s, st),
-        SymbolForm::Rtti => shaped(SymbolShape::Leaf(63, 0, 0), st),
+        SymbolForm::Rtti => shaped(SymbolShape::Leaf(kinds::RTTI_TYPE, 0, 0), st),
         SymbolForm::Member => shaped(SymbolShape::Function(true), st),
-        SymbolForm::Nothing => shaped(SymbolShape::Leaf(17, 0, 0), st),
+        SymbolForm::Nothing => shaped(SymbolShape::Leaf(kinds::NONE, 0, 0), st),
     }
 }
 
 // The symbol's own type, up to its first part.
 pub fn symbol_shape(s: &[u8], st: Spot) -> SymbolShaped
-    requires { ⌜ length (now s) ≤ 4096 ⌝ }
+    requires { ⌜ Short (now s) ⌝ }
     ensures { λ r. ⌜ Leads (now (s .entry)) symbolTypeBody st (shapeSymbol (r .shape)) (r .state) ⌝ }
 {
     let b = forms::begins::symbol_start(s, st.at as usize);
@@ -162,7 +171,7 @@ pub struct Parsing {
 
 // parse, behind its `?`, up to its first part.
 pub fn parse_form(s: &[u8], st: Spot) -> Parsing
-    requires { ⌜ length (now s) ≤ 4096 ⌝ }
+    requires { ⌜ Short (now s) ⌝ }
     ensures { λ r. ⌜ Leads (now (s .entry)) (ordered parseForms parseOf (parseOf Name)) st (parseOf (r .form)) (r .state) ⌝ }
 {
     let b = forms::begins::parse_start(s, st.at as usize);
@@ -175,7 +184,7 @@ pub fn parse_form(s: &[u8], st: Spot) -> Parsing
 
 // One more than the index that stands here; 0 at the end.
 fn index_and_one(s: &[u8], st: Spot) -> Took
-    requires { ⌜ length (now s) ≤ 4096 ⌝ }
+    requires { ⌜ Short (now s) ⌝ }
     ensures { λ r. ⌜ Values (now (s .entry)) indexAndOne st r ⌝ }
 {
     if s.len() <= (st.at as usize) {
@@ -198,7 +207,7 @@ fn index_and_one(s: &[u8], st: Spot) -> Took
 
 // A guard's index; `guard` is 1 for one.
 pub fn guard_index(s: &[u8], st: Spot, guard: u32) -> Took
-    requires { ⌜ length (now s) ≤ 4096 ⌝ }
+    requires { ⌜ Short (now s) ⌝ }
     ensures { λ r. ⌜ Values (now (s .entry)) (guardIndex (eqb guard 1)) st r ⌝ }
 {
     if guard == 1 {

@@ -7,8 +7,12 @@ ghost use Rattle.forms.specs.declared.types.TypeForm.the-variants.{Reclassed, M
 ghost use Rattle.forms.specs.declared.types.TypeLetter.the-variants.{Parameter};
 ghost use Rattle.steps.specs.Does.{Leads};
 ghost use Rattle.shapes.specs.Shapes.{basicOf, shapeType, numberedType};
+ghost use Rattle.scan.specs.Limits.{Short};
+ghost use Rattle.node.specs.Kind.{lastBasic};
 use forms::types::TypeForm;
 use forms::types::TypeLetter;
+use letters::storage;
+use node::kinds;
 use steps::leaves::expect;
 use steps::leaves::number;
 use steps::leaves::qualifier;
@@ -44,7 +48,7 @@ fn shape_at(shape: Shape, st: Spot) -> Shaped
 
 // A node of a kind with the number that stands here.
 fn numbered(s: &[u8], st: Spot, kind: u32) -> Shaped
-    requires { ⌜ length (now s) ≤ 4096 ⌝ }
+    requires { ⌜ Short (now s) ⌝ }
     ensures { λ r. ⌜ Leads (now (s .entry)) (numberedType kind) st (shapeType (r .shape)) (r .state) ⌝ }
 {
     let k = number(s, st);
@@ -57,14 +61,17 @@ fn numbered(s: &[u8], st: Spot, kind: u32) -> Shaped
 
 // The number of a template's parameter, which stands here negated.
 fn parameter(s: &[u8], st: Spot) -> Shaped
-    requires { ⌜ length (now s) ≤ 4096 ⌝ }
+    requires { ⌜ Short (now s) ⌝ }
     ensures { λ r. ⌜ Leads (now (s .entry)) (letterType 0 Parameter) st (shapeType (r .shape)) (r .state) ⌝ }
 {
     let k = number(s, st);
     let v = k.value;
     match v {
         Value::Is(n) => shape_at(
-            Shape::Leaf(24, ((0x1_0000_0000 - (n as u64)) % 0x1_0000_0000) as u32),
+            Shape::Leaf(
+                kinds::TEMPLATE_PARAMETER_WITH_INDEX,
+                ((0x1_0000_0000 - (n as u64)) % 0x1_0000_0000) as u32,
+            ),
             k.state,
         ),
         Value::Bad => shape_at(Shape::Refused, k.state),
@@ -72,30 +79,33 @@ fn parameter(s: &[u8], st: Spot) -> Shaped
 }
 
 fn letter_shape(s: &[u8], st: Spot, l: TypeLetter, sc: u32) -> Shaped
-    requires { ⌜ length (now s) ≤ 4096 ⌝ }
-    requires { ⌜ basicOf l ≤ 21 ⌝ }
+    requires { ⌜ Short (now s) ⌝ }
+    requires { ⌜ basicOf l ≤ lastBasic ⌝ }
     ensures { λ r. ⌜ Leads (now (s .entry)) (letterType sc l) st (shapeType (r .shape)) (r .state) ⌝ }
 {
     match l {
         TypeLetter::Parameter => parameter(s, st),
-        TypeLetter::Union => shape_at(Shape::Named(35, false, sc), st),
-        TypeLetter::Struct => shape_at(Shape::Named(34, false, sc), st),
-        TypeLetter::Class => shape_at(Shape::Named(36, false, sc), st),
-        TypeLetter::Ref => shape_at(Shape::Pointing(29, sc), st),
-        TypeLetter::VolatileRef => shape_at(Shape::Pointing(29, 2), st),
-        TypeLetter::Ptr => shape_at(Shape::Pointing(28, sc), st),
-        TypeLetter::ConstPtr => shape_at(Shape::Pointing(28, 1), st),
-        TypeLetter::VolatilePtr => shape_at(Shape::Pointing(28, 2), st),
-        TypeLetter::ConstVolatilePtr => shape_at(Shape::Pointing(28, 3), st),
+        TypeLetter::Union => shape_at(Shape::Named(kinds::UNION, false, sc), st),
+        TypeLetter::Struct => shape_at(Shape::Named(kinds::STRUCT, false, sc), st),
+        TypeLetter::Class => shape_at(Shape::Named(kinds::CLASS, false, sc), st),
+        TypeLetter::Ref => shape_at(Shape::Pointing(kinds::REF, sc), st),
+        TypeLetter::VolatileRef => shape_at(Shape::Pointing(kinds::REF, storage::VOLATILE), st),
+        TypeLetter::Ptr => shape_at(Shape::Pointing(kinds::PTR, sc), st),
+        TypeLetter::ConstPtr => shape_at(Shape::Pointing(kinds::PTR, storage::CONST), st),
+        TypeLetter::VolatilePtr => shape_at(Shape::Pointing(kinds::PTR, storage::VOLATILE), st),
+        TypeLetter::ConstVolatilePtr => shape_at(
+            Shape::Pointing(kinds::PTR, storage::CONST_VOLATILE),
+            st,
+        ),
         TypeLetter::Array => shape_at(Shape::Array, st),
-        TypeLetter::Basic(k) => shape_at(Shape::Leaf(38 + k, sc), st),
+        TypeLetter::Basic(k) => shape_at(Shape::Leaf(kinds::VOID + k, sc), st),
         TypeLetter::Refused => shape_at(Shape::Refused, st),
     }
 }
 
 // What follows the prefixes.
 fn plain_shape(s: &[u8], st: Spot, sc: u32) -> Shaped
-    requires { ⌜ length (now s) ≤ 4096 ⌝ }
+    requires { ⌜ Short (now s) ⌝ }
     ensures { λ r. ⌜ Leads (now (s .entry)) (plainType sc) st (shapeType (r .shape)) (r .state) ⌝ }
 {
     let h = forms::types::type_letter(s, st.at as usize);
@@ -104,7 +114,7 @@ fn plain_shape(s: &[u8], st: Spot, sc: u32) -> Shaped
 }
 
 fn reclassed(s: &[u8], st: Spot) -> Shaped
-    requires { ⌜ length (now s) ≤ 4096 ⌝ }
+    requires { ⌜ Short (now s) ⌝ }
     ensures { λ r. ⌜ Leads (now (s .entry)) (formType 0 Reclassed) st (shapeType (r .shape)) (r .state) ⌝ }
 {
     let q = qualifier(s, st);
@@ -112,7 +122,7 @@ fn reclassed(s: &[u8], st: Spot) -> Shaped
 }
 
 fn member_pointer(s: &[u8], st: Spot) -> Shaped
-    requires { ⌜ length (now s) ≤ 4096 ⌝ }
+    requires { ⌜ Short (now s) ⌝ }
     ensures { λ r. ⌜ Leads (now (s .entry)) (formType 0 MemberPointer) st (shapeType (r .shape)) (r .state) ⌝ }
 {
     let e = expect(b"?", s, st);
@@ -124,23 +134,23 @@ fn member_pointer(s: &[u8], st: Spot) -> Shaped
 }
 
 fn form_shape(s: &[u8], st: Spot, f: TypeForm, sc: u32) -> Shaped
-    requires { ⌜ length (now s) ≤ 4096 ⌝ }
+    requires { ⌜ Short (now s) ⌝ }
     ensures { λ r. ⌜ Leads (now (s .entry)) (formType sc f) st (shapeType (r .shape)) (r .state) ⌝ }
 {
     match f {
-        TypeForm::Enum => shape_at(Shape::Named(37, false, sc), st),
-        TypeForm::FunctionRef => shape_at(Shape::ToFunction(29, sc), st),
-        TypeForm::FunctionPtr => shape_at(Shape::ToFunction(28, sc), st),
+        TypeForm::Enum => shape_at(Shape::Named(kinds::ENUM, false, sc), st),
+        TypeForm::FunctionRef => shape_at(Shape::ToFunction(kinds::REF, sc), st),
+        TypeForm::FunctionPtr => shape_at(Shape::ToFunction(kinds::PTR, sc), st),
         TypeForm::MemberFunctionPtr => shape_at(Shape::Member(true), st),
-        TypeForm::Constant => numbered(s, st, 26),
-        TypeForm::TemplateParameter => numbered(s, st, 24),
+        TypeForm::Constant => numbered(s, st, kinds::CONSTANT),
+        TypeForm::TemplateParameter => numbered(s, st, kinds::TEMPLATE_PARAMETER_WITH_INDEX),
         TypeForm::Array => shape_at(Shape::Array, st),
-        TypeForm::RValueRef => shape_at(Shape::Pointing(30, sc), st),
-        TypeForm::EmptyPack => shape_at(Shape::Leaf(61, 0), st),
-        TypeForm::Nullptr => shape_at(Shape::Leaf(62, 0), st),
+        TypeForm::RValueRef => shape_at(Shape::Pointing(kinds::RVALUE_REF, sc), st),
+        TypeForm::EmptyPack => shape_at(Shape::Leaf(kinds::EMPTY_PARAMETER_PACK, 0), st),
+        TypeForm::Nullptr => shape_at(Shape::Leaf(kinds::NULLPTR, 0), st),
         TypeForm::Function => shape_at(Shape::Function(false), st),
         TypeForm::QualifiedFunction => shape_at(Shape::Function(true), st),
-        TypeForm::Alias => shape_at(Shape::Named(33, true, sc), st),
+        TypeForm::Alias => shape_at(Shape::Named(kinds::ALIAS, true, sc), st),
         TypeForm::Reclassed => reclassed(s, st),
         TypeForm::MemberPointer => member_pointer(s, st),
         TypeForm::Plain => plain_shape(s, st, sc),
@@ -149,7 +159,7 @@ fn form_shape(s: &[u8], st: Spot, f: TypeForm, sc: u32) -> Shaped
 
 // read_var_type, up to its first part.
 pub fn type_shape(s: &[u8], st: Spot, sc: u32) -> Shaped
-    requires { ⌜ length (now s) ≤ 4096 ⌝ }
+    requires { ⌜ Short (now s) ⌝ }
     ensures { λ r. ⌜ Leads (now (s .entry)) (varTypeBody sc) st (shapeType (r .shape)) (r .state) ⌝ }
 {
     let b = forms::types::type_start(s, st.at as usize);

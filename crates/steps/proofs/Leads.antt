@@ -103,9 +103,6 @@ pub record Alike {A : Type 0} (s : List ℕ) (p q : Reading A) : Type 0 where
 pub leads-alike : {A : Type 0} {s : List ℕ} {p q : Reading A} {st : Spot} → Alike s p q → Leads s p st q st
 leads-alike {st = st} a = record { is = λ limit room d t. a .is limit room d (full st t) (t .table) }
 
-pub leads-to : {A : Type 0} {s : List ℕ} {p q q′ : Reading A} {st st′ : Spot} → Leads s p st q st′ → Alike s q q′ → Leads s p st q′ st′
-leads-to {st′ = st′} a b = record { is = λ limit room d t. a .is limit room d t ∙ b .is limit room d (full st′ t) (t .table) }
-
 onward-alike : {A B T : Type 0} (r : Reply B) (st : State) (t : T) (f f′ : B → State → T → Out A T) → ((b : B) (st : State) (t : T) → f b st t ≡ f′ b st t) → onward r st t f ≡ onward r st t f′
 onward-alike (found b) st t f f′ h = h b st t
 onward-alike (refused why) st t f f′ h = refl

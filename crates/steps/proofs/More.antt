@@ -53,10 +53,6 @@ module _ {s : List ℕ} {limit room d : ℕ} where
       let k : full st′ (lent t names′ types′) ≡ with m (full st (lent t names types)) = rw (e, n, y) in
       record { is = r .is ∙ ap (λ (x : State). runs s limit room d q x t) k }
 
-  pub does-there : {A B : Type 0} {v : View A} {b : B} {k : B → Reading A} {st : Spot} {t t′ : Lent} {g : Got} → Does s limit room d (k b) st t v g t′ → Does s limit room d (sub (ret b) k) st t v g t′
-  unfolding run
-  does-there r = record { is = r .is }
-
   pub does-assoc :
       {A B C : Type 0} {v : View A} {p : Reading C} {k : C → Reading B} {h : B → Reading A} {st : Spot} {t t′ : Lent} {g : Got} →
       Does s limit room d (sub (sub p k) h) st t v g t′ → Does s limit room d (sub p (λ c. sub (k c) h)) st t v g t′

@@ -32,6 +32,7 @@ use Rattle.steps.specs.declared.state.Value.{Value}
 use Rattle.steps.specs.declared.state.Value.the-variants.{Is, Bad}
 use Rattle.steps.specs.declared.state.Took.{Took}
 use Rattle.steps.specs.declared.state.Classed.{Classed}
+use Rattle.scan.specs.Limits.{longestSymbol, Short}
 
 leaf-says : (s : List ℕ) (limit room d : ℕ) (l : Leaf) (st : Spot) (t : Lent) → out (valued (tookLeaf l st .value)) (full (tookLeaf l st .state) t) (t .table) ≡ does s limit room d (leafIs l) st t
 unfolding run
@@ -59,16 +60,16 @@ classes-leaf {s} f {c} {st} {r} e h =
     record { is = λ limit room d t. ap (λ (r : Classed). out (found (r .bits)) (full (r .state) t) (t .table)) h ∙ ap (λ (c : Class). does s limit room d (classIs c) st t) e }
 
 -- room for what is taken
-room-leaf : (at most : ℕ) (l : Leaf) → Fits most l → most ≤ 4096 - at → at < 65536 → LeafRoom at l
+room-leaf : (at most : ℕ) (l : Leaf) → Fits most l → most ≤ longestSymbol - at → at < 65536 → LeafRoom at l
 room-leaf at most (leafs.Value v n) f h a = omega arith
 room-leaf at most (leafs.Bad n) f h a = omega arith
 
-room-span : (at most : ℕ) (l : Span) → SpanFits most l → most ≤ 4096 - at → at < 65536 → SpanRoom at l
+room-span : (at most : ℕ) (l : Span) → SpanFits most l → most ≤ longestSymbol - at → at < 65536 → SpanRoom at l
 room-span at most (spans.Takes n) f h a = omega arith
 room-span at most (spans.Bad n) f h a = omega arith
 
-module _ (s : List ℕ) (at : ℕ) (short : length s ≤ 4096) (low : at < 65536) where
-  rest-short : length (drop at s) ≤ 4096 - at
+module _ (s : List ℕ) (at : ℕ) (short : Short s) (low : at < 65536) where
+  rest-short : length (drop at s) ≤ longestSymbol - at
   rest-short = rw (length-drop at s) (omega arith)
 
   pub leaf-room : (f : List ℕ → Leaf) → ((r : List ℕ) → Fits (length r) (f r)) → {l : Leaf} → l ≡ f (drop at s) → LeafRoom at l
@@ -90,7 +91,7 @@ starts-fits [] r e = omega arith
 starts-fits (c ∷ b) [] e = true-false (sym e)
 starts-fits (c ∷ b) (x ∷ r) e = let l = starts-fits b r (both-true (eqb x c) (starts b r) e) in omega arith
 
-pub stands-room : (s b : List ℕ) (at : ℕ) → length s ≤ 4096 → at < 65536 → {r : Bool} → r ≡ starts b (drop at s) → r ≡ true → at + length b < 65536
+pub stands-room : (s b : List ℕ) (at : ℕ) → Short s → at < 65536 → {r : Bool} → r ≡ starts b (drop at s) → r ≡ true → at + length b < 65536
 stands-room s b at short low e f = let l = starts-fits b (drop at s) (sym e ∙ f) in let m = rest-short s at short low in omega arith
 
 -- a digit, a stored type: by what was found
@@ -112,13 +113,13 @@ digit-says (x ∷ s) (suc at) st = digit-says s at st
 pub digits : {s : List ℕ} {f g : Found} {st : Spot} {r : Took} → f ≡ readDigit (drop (st .at) s) → f ≡ g → r ≡ tookDigit g st → Digits s st r
 digits {s} {st = st} e h k = record { is = k ∙ ap (λ (f : Found). tookDigit f st) (sym h ∙ e) ∙ digit-says s (st .at) st }
 
-pub digit-room : (s : List ℕ) (at : ℕ) → length s ≤ 4096 → {f : Found} {i : ℕ} → f ≡ readDigit (drop at s) → f ≡ Byte i → at + 1 < 65536
+pub digit-room : (s : List ℕ) (at : ℕ) → Short s → {f : Found} {i : ℕ} → f ≡ readDigit (drop at s) → f ≡ Byte i → at + 1 < 65536
 digit-room s at short e h = omega (arith, digit-at s at (sym e ∙ h))
 
 pub refers : {s : List ℕ} {f g : Reference} {st : Spot} {r : Took} → f ≡ typeReference (drop (st .at) s) → f ≡ g → r ≡ tookReference g st → Refers s st r
 refers {st = st} e h k = record { is = k ∙ ap (λ (f : Reference). tookReference f st) (sym h ∙ e) }
 
-pub reference-room : (s : List ℕ) (at : ℕ) → length s ≤ 4096 → at < 65536 → {f : Reference} {i n : ℕ} → f ≡ typeReference (drop at s) → f ≡ Stored i n → at + n < 65536
+pub reference-room : (s : List ℕ) (at : ℕ) → Short s → at < 65536 → {f : Reference} {i n : ℕ} → f ≡ typeReference (drop at s) → f ≡ Stored i n → at + n < 65536
 reference-room s at short low e h =
     let l = subst (ReferenceFits (length (drop at s))) (sym e ∙ h) (reference-fits (drop at s)) in
     let m = rest-short s at short low in

@@ -35,6 +35,7 @@ use Rattle.steps.specs.declared.state.Value.{Value}
 use Rattle.steps.specs.declared.state.Value.the-variants.{Is, Bad}
 use Rattle.steps.specs.declared.state.Took.{Took}
 use Rattle.steps.specs.declared.state.Classed.{Classed}
+use Rattle.node.specs.Kind.{isPlace}
 
 -- what is lent to a reading: the node table, and the memo's names and types
 pub record Lent : Type 0 where
@@ -180,7 +181,7 @@ abbrev pub raised : ℕ → row.Node → row.Node
 raised height x = record { kind = x .kind; height = height; a = x .a; b = x .b; c = x .c; p = x .p; q = x .q; r = x .r; s = x .s }
 
 abbrev pub shutAbove : ℕ → ℕ → ℕ → row.Node → State → List ℕ → Out ℕ (List ℕ)
-shutAbove limit room top x st t = let height = top + rises (x .kind) in shutAt limit room (pick (leb (x .kind) 2) 0 height) (raised height x) st t
+shutAbove limit room top x st t = let height = top + rises (x .kind) in shutAt limit room (pick (isPlace (x .kind)) 0 height) (raised height x) st t
 
 unfoldable pub shutCells : ℕ → ℕ → row.Node → State → List ℕ → Out ℕ (List ℕ)
 shutCells limit room x st t = shutAbove limit room (tallestIn (counted (st .used) t) (x .a ∷ x .b ∷ x .c ∷ [])) x st t

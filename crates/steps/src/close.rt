@@ -1,7 +1,7 @@
 // Closing a node: its height against the limit, then the room, then its cells.
 ghost use mathlib.Core.Path.{_≡_};
 ghost use mathlib.Core.List.{List, [], _∷_};
-ghost use Prim.Native.Nat.{ℕ, _+_, _<_, _≤_, _^_, max};
+ghost use Prim.Native.Nat.{ℕ, _+_, _<_, _^_, max};
 ghost use Rattle.grammar.specs.Table.{laid, tallestIn};
 ghost use Rattle.grammar.specs.Grammar.{to};
 ghost use Rattle.steps.specs.Does.{plain, Follows, lent, Puts, Lays, Shuts, Small, Tops, raised, rowOf, placeOf};
@@ -15,6 +15,7 @@ use crate::state::larger;
 use crate::state::refused;
 use grammar::Refusal;
 use node::Node;
+use node::kinds;
 
 // A node of a kind by its references and numbers; its height comes when it closes.
 pub fn made(kind: u32, a: u32, b: u32, c: u32, p: u32, q: u32, r: u32) -> Node
@@ -90,7 +91,7 @@ fn lay(t: &mut [u32], st: Spot, lim: Limits, x: Node, top: usize) -> Got
     ensures { λ r. ⌜ Lays (lim .depth) (lim .room) top x st (now (t .entry)) r (now (t .exit)) ⌝ }
     ensures { λ r. ⌜ Small r ⌝ }
 {
-    if x.kind <= 2 {
+    if x.kind <= kinds::TYPE_PLACE {
         return put(t, st, lim.room, raised_to(x, top as u32), 0);
     }
     if (lim.depth as usize) <= top {

@@ -10,6 +10,7 @@ ghost use Rattle.operators.specs.Operators.{readOperator};
 ghost use Rattle.grammar.specs.Words.{leaf, span, class, number, unsigned, string};
 ghost use Rattle.grammar.specs.Grammar.{pointeeClass, elementLetter, elementClass};
 ghost use Rattle.steps.specs.Does.{further, Values, Classes, Meets, Digits, Refers, tookLeaf, tookSpan, classedAt, LeafRoom, SpanRoom, ClassRoom};
+ghost use Rattle.scan.specs.Limits.{Short};
 use crate::state::Classed;
 use crate::state::Spot;
 use crate::state::Took;
@@ -17,6 +18,7 @@ use crate::state::Value;
 use crate::state::past;
 use forms::types::Reference;
 use letters::Class;
+use letters::storage;
 use scan::cursor::Found;
 use scan::cursor::Leaf;
 use scan::cursor::Span;
@@ -64,42 +66,42 @@ fn classed(c: Class, st: Spot) -> Classed
 }
 
 pub fn number(s: &[u8], st: Spot) -> Took
-    requires { ⌜ length (now s) ≤ 4096 ⌝ }
+    requires { ⌜ Short (now s) ⌝ }
     ensures { λ r. ⌜ Values (now (s .entry)) number st r ⌝ }
 {
     took(scan::number::read_number(s, st.at as usize), st)
 }
 
 pub fn unsigned(s: &[u8], st: Spot) -> Took
-    requires { ⌜ length (now s) ≤ 4096 ⌝ }
+    requires { ⌜ Short (now s) ⌝ }
     ensures { λ r. ⌜ Values (now (s .entry)) unsigned st r ⌝ }
 {
     took(scan::number::read_unsigned(s, st.at as usize), st)
 }
 
 pub fn guard_number(s: &[u8], st: Spot) -> Took
-    requires { ⌜ length (now s) ≤ 4096 ⌝ }
+    requires { ⌜ Short (now s) ⌝ }
     ensures { λ r. ⌜ Values (now (s .entry)) (leaf readGuardNumber) st r ⌝ }
 {
     took(scan::number::read_guard_number(s, st.at as usize), st)
 }
 
 pub fn calling_conv(s: &[u8], st: Spot) -> Took
-    requires { ⌜ length (now s) ≤ 4096 ⌝ }
+    requires { ⌜ Short (now s) ⌝ }
     ensures { λ r. ⌜ Values (now (s .entry)) (leaf readCallingConv) st r ⌝ }
 {
     took(letters::read_calling_conv(s, st.at as usize), st)
 }
 
 pub fn func_class(s: &[u8], st: Spot) -> Took
-    requires { ⌜ length (now s) ≤ 4096 ⌝ }
+    requires { ⌜ Short (now s) ⌝ }
     ensures { λ r. ⌜ Values (now (s .entry)) (leaf readFuncClass) st r ⌝ }
 {
     took(letters::read_func_class(s, st.at as usize), st)
 }
 
 pub fn return_class(s: &[u8], st: Spot) -> Took
-    requires { ⌜ length (now s) ≤ 4096 ⌝ }
+    requires { ⌜ Short (now s) ⌝ }
     ensures { λ r. ⌜ Values (now (s .entry)) (leaf readStorageClassForReturn) st r ⌝ }
 {
     took(
@@ -109,56 +111,56 @@ pub fn return_class(s: &[u8], st: Spot) -> Took
 }
 
 pub fn string_width(s: &[u8], st: Spot) -> Took
-    requires { ⌜ length (now s) ≤ 4096 ⌝ }
+    requires { ⌜ Short (now s) ⌝ }
     ensures { λ r. ⌜ Values (now (s .entry)) (leaf readStringWidth) st r ⌝ }
 {
     took(letters::read_string_width(s, st.at as usize), st)
 }
 
 pub fn guard_marker(s: &[u8], st: Spot) -> Took
-    requires { ⌜ length (now s) ≤ 4096 ⌝ }
+    requires { ⌜ Short (now s) ⌝ }
     ensures { λ r. ⌜ Values (now (s .entry)) (leaf readGuardMarker) st r ⌝ }
 {
     took(letters::read_guard_marker(s, st.at as usize), st)
 }
 
 pub fn operator(s: &[u8], st: Spot) -> Took
-    requires { ⌜ length (now s) ≤ 4096 ⌝ }
+    requires { ⌜ Short (now s) ⌝ }
     ensures { λ r. ⌜ Values (now (s .entry)) (leaf readOperator) st r ⌝ }
 {
     took(operators::read_operator(s, st.at as usize), st)
 }
 
 pub fn string(s: &[u8], st: Spot) -> Took
-    requires { ⌜ length (now s) ≤ 4096 ⌝ }
+    requires { ⌜ Short (now s) ⌝ }
     ensures { λ r. ⌜ Values (now (s .entry)) string st r ⌝ }
 {
     took_span(scan::name::read_string(s, st.at as usize), st)
 }
 
 pub fn md5(s: &[u8], st: Spot) -> Took
-    requires { ⌜ length (now s) ≤ 4096 ⌝ }
+    requires { ⌜ Short (now s) ⌝ }
     ensures { λ r. ⌜ Values (now (s .entry)) (span readMd5Name) st r ⌝ }
 {
     took_span(scan::name::read_md5_name(s, st.at as usize), st)
 }
 
 pub fn storage_class(s: &[u8], st: Spot) -> Classed
-    requires { ⌜ length (now s) ≤ 4096 ⌝ }
+    requires { ⌜ Short (now s) ⌝ }
     ensures { λ r. ⌜ Classes (now (s .entry)) (class readStorageClass) st r ⌝ }
 {
     classed(letters::read_storage_class(s, st.at as usize), st)
 }
 
 pub fn qualifier(s: &[u8], st: Spot) -> Classed
-    requires { ⌜ length (now s) ≤ 4096 ⌝ }
+    requires { ⌜ Short (now s) ⌝ }
     ensures { λ r. ⌜ Classes (now (s .entry)) (class readQualifier) st r ⌝ }
 {
     classed(letters::read_qualifier(s, st.at as usize), st)
 }
 
 pub fn func_qualifiers(s: &[u8], st: Spot) -> Classed
-    requires { ⌜ length (now s) ≤ 4096 ⌝ }
+    requires { ⌜ Short (now s) ⌝ }
     ensures { λ r. ⌜ Classes (now (s .entry)) (class readFuncQualifiers) st r ⌝ }
 {
     classed(letters::read_func_qualifiers(s, st.at as usize), st)
@@ -166,7 +168,7 @@ pub fn func_qualifiers(s: &[u8], st: Spot) -> Classed
 
 // These bytes, taken if they stand here.
 pub fn expect(literal: &[u8], s: &[u8], st: Spot) -> Took
-    requires { ⌜ length (now s) ≤ 4096 ⌝ }
+    requires { ⌜ Short (now s) ⌝ }
     ensures { λ r. ⌜ Meets (now (literal .entry)) (now (s .entry)) st r ⌝ }
 {
     if scan::cursor::consume(literal, s, st.at as usize) {
@@ -183,7 +185,7 @@ pub fn expect(literal: &[u8], s: &[u8], st: Spot) -> Took
 
 // A digit, taken if it stands here.
 pub fn digit(s: &[u8], st: Spot) -> Took
-    requires { ⌜ length (now s) ≤ 4096 ⌝ }
+    requires { ⌜ Short (now s) ⌝ }
     ensures { λ r. ⌜ Digits (now (s .entry)) st r ⌝ }
 {
     let d = scan::cursor::read_digit(s, st.at as usize);
@@ -201,7 +203,7 @@ pub fn digit(s: &[u8], st: Spot) -> Took
 
 // A stored type, taken if one is named here.
 pub fn reference(s: &[u8], st: Spot) -> Took
-    requires { ⌜ length (now s) ≤ 4096 ⌝ }
+    requires { ⌜ Short (now s) ⌝ }
     ensures { λ r. ⌜ Refers (now (s .entry)) st r ⌝ }
 {
     let f = forms::types::type_reference(s, st.at as usize);
@@ -219,7 +221,7 @@ pub fn reference(s: &[u8], st: Spot) -> Took
 
 // `E` and a class.
 pub fn pointee_class(s: &[u8], st: Spot) -> Classed
-    requires { ⌜ length (now s) ≤ 4096 ⌝ }
+    requires { ⌜ Short (now s) ⌝ }
     ensures { λ r. ⌜ Classes (now (s .entry)) pointeeClass st r ⌝ }
 {
     let e = expect(b"E", s, st);
@@ -229,7 +231,7 @@ pub fn pointee_class(s: &[u8], st: Spot) -> Classed
             let c = storage_class(s, e.state);
             let next = c.state;
             Classed {
-                bits: c.bits + 64,
+                bits: c.bits + storage::PTR64,
                 state: next,
             }
         }
@@ -248,18 +250,18 @@ fn behind(st: Spot, bits: u32) -> Took
 }
 
 fn element_letter(s: &[u8], st: Spot) -> Took
-    requires { ⌜ length (now s) ≤ 4096 ⌝ }
+    requires { ⌜ Short (now s) ⌝ }
     ensures { λ r. ⌜ Values (now (s .entry)) elementLetter st r ⌝ }
 {
     let at = st.at as usize;
     if scan::cursor::consume(b"B", s, at) {
-        return behind(st, 1);
+        return behind(st, storage::CONST);
     }
     if scan::cursor::consume(b"C", s, at) {
-        return behind(st, 3);
+        return behind(st, storage::CONST_VOLATILE);
     }
     if scan::cursor::consume(b"D", s, at) {
-        return behind(st, 3);
+        return behind(st, storage::CONST_VOLATILE);
     }
     if scan::cursor::consume(b"A", s, at) {
         return behind(st, 0);
@@ -272,7 +274,7 @@ fn element_letter(s: &[u8], st: Spot) -> Took
 
 // `$$C` and a letter that it needs, or nothing.
 pub fn element_class(s: &[u8], st: Spot) -> Took
-    requires { ⌜ length (now s) ≤ 4096 ⌝ }
+    requires { ⌜ Short (now s) ⌝ }
     ensures { λ r. ⌜ Values (now (s .entry)) elementClass st r ⌝ }
 {
     let e = expect(b"$$C", s, st);

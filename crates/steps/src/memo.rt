@@ -15,20 +15,25 @@ use crate::state::Got;
 use crate::state::Spot;
 use crate::state::found;
 use crate::state::refused;
+use grammar::ENTRIES;
+use grammar::Entries;
 use grammar::Memo;
 use grammar::Refusal;
 use meaning::SPENT;
 use meaning::VISITS;
-use meaning::links::NOTES;
+use meaning::links::LINKS;
+
+// A memo with so many names or types stores no more.
+const FULL: u8 = ENTRIES as u8;
 
 // The entry i, 0 past the last.
-fn entry(entries: [u16; 10], i: usize) -> u16
+fn entry(entries: Entries, i: usize) -> u16
     ensures { λ r. ⌜ r ≡ getD entries i 0 ⌝ }
 {
-    if i < 10 { entries[i] } else { 0 }
+    if i < ENTRIES { entries[i] } else { 0 }
 }
 
-pub fn name_of(names: &[u16; 10], st: Spot, i: u32) -> Got
+pub fn name_of(names: &Entries, st: Spot, i: u32) -> Got
     ensures { λ r. ⌜ ((t types : List ℕ) → Finds (nameOf i) st (lent t (now (names .entry)) types) r) ⌝ }
 {
     if i < (st.names_len as u32) {
@@ -38,7 +43,7 @@ pub fn name_of(names: &[u16; 10], st: Spot, i: u32) -> Got
     refused(Refusal::Syntax, st)
 }
 
-pub fn type_of(types: &[u16; 10], st: Spot, i: u32) -> Got
+pub fn type_of(types: &Entries, st: Spot, i: u32) -> Got
     ensures { λ r. ⌜ ((t names : List ℕ) → Finds (typeOf i) st (lent t names (now (types .entry))) r) ⌝ }
 {
     if i < (st.types_len as u32) {
@@ -52,7 +57,7 @@ pub fn type_of(types: &[u16; 10], st: Spot, i: u32) -> Got
 pub fn counted(t: &[u32], used: u16) -> &[u32]
     ensures { λ r. ⌜ now r ≡ counted used (now (t .entry)) ⌝ }
 {
-    let n = (used as usize) * 12;
+    let n = (used as usize) * node::CELLS;
     if n <= t.len() { &t[..n] } else { t }
 }
 
@@ -104,7 +109,7 @@ fn sought_linked(front: &[u32], s: &[u8], entries: &[u16], from: usize, n: u16) 
         let mut links = [0u16; FEW];
         return sought_over(front, s, entries, &mut links, from, n);
     }
-    let mut links = [0u16; NOTES];
+    let mut links = [0u16; LINKS];
     sought_over(front, s, entries, &mut links, from, n)
 }
 
@@ -135,7 +140,7 @@ fn sought(front: &[u32], s: &[u8], entries: &[u16], from: usize, n: u16) -> usiz
 }
 
 // Does one of the first entries mean the same as the node n? It may be that node.
-fn holds(front: &[u32], s: &[u8], entries: [u16; 10], len: u8, n: u16) -> bool
+fn holds(front: &[u32], s: &[u8], entries: Entries, len: u8, n: u16) -> bool
     requires { ⌜ len ≤ 10 ⌝ }
     ensures { λ r. ⌜ r ≡ anyOf (sameIn (now (front .entry)) (now (s .entry)) n) (take len entries) ⌝ }
 {
@@ -160,11 +165,11 @@ fn counting(st: Spot, names_len: u8, types_len: u8) -> Spot
     }
 }
 
-pub fn memorize_name(t: &[u32], s: &[u8], names: &mut [u16; 10], st: Spot, n: u16) -> Spot
+pub fn memorize_name(t: &[u32], s: &[u8], names: &mut Entries, st: Spot, n: u16) -> Spot
     ensures { λ r. ⌜ ((types : List ℕ) → Keeps (now (s .entry)) store.names n st (lent (now (t .entry)) (now (names .entry)) types) r (lent (now (t .entry)) (now (names .exit)) types)) ⌝ }
 {
     let len = st.names_len;
-    if 10 <= len {
+    if FULL <= len {
         return st;
     }
     let entries = *names;
@@ -176,11 +181,11 @@ pub fn memorize_name(t: &[u32], s: &[u8], names: &mut [u16; 10], st: Spot, n: u1
     counting(st, len + 1, st.types_len)
 }
 
-pub fn memorize_type(t: &[u32], s: &[u8], types: &mut [u16; 10], st: Spot, n: u16) -> Spot
+pub fn memorize_type(t: &[u32], s: &[u8], types: &mut Entries, st: Spot, n: u16) -> Spot
     ensures { λ r. ⌜ ((names : List ℕ) → Keeps (now (s .entry)) store.types n st (lent (now (t .entry)) names (now (types .entry))) r (lent (now (t .entry)) names (now (types .exit)))) ⌝ }
 {
     let len = st.types_len;
-    if 10 <= len {
+    if FULL <= len {
         return st;
     }
     let entries = *types;
@@ -193,15 +198,15 @@ pub fn memorize_type(t: &[u32], s: &[u8], types: &mut [u16; 10], st: Spot, n: u1
 }
 
 // The memo goes aside, and its entries are cleared.
-pub fn aside(names: &mut [u16; 10], types: &mut [u16; 10], st: Spot) -> Memo
+pub fn aside(names: &mut Entries, types: &mut Entries, st: Spot) -> Memo
     ensures { λ r. ⌜ r ≡ memoOf st (now (names .entry)) (now (types .entry)) ⌝ }
     ensures { λ _. ⌜ now (names .exit) ≡ replicate 10 0 ⌝ }
     ensures { λ _. ⌜ now (types .exit) ≡ replicate 10 0 ⌝ }
 {
     let a = *names;
     let b = *types;
-    *names = [0u16; 10];
-    *types = [0u16; 10];
+    *names = [0u16; ENTRIES];
+    *types = [0u16; ENTRIES];
     Memo {
         names: a,
         types: b,
@@ -218,7 +223,7 @@ pub fn emptied(st: Spot) -> Spot
 }
 
 // The memo comes back.
-pub fn put_back(names: &mut [u16; 10], types: &mut [u16; 10], m: Memo, st: Spot) -> Spot
+pub fn put_back(names: &mut Entries, types: &mut Entries, m: Memo, st: Spot) -> Spot
     ensures { λ r. ⌜ r ≡ counting (m .«names_len») (m .«types_len») st ⌝ }
     ensures { λ _. ⌜ now (names .exit) ≡ m .names ⌝ }
     ensures { λ _. ⌜ now (types .exit) ≡ m .types ⌝ }

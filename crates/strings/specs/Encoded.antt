@@ -1,10 +1,10 @@
 -- Encoded strings. Assumes nothing: these are definitions.
 use Prim.Native.Nat.{ℕ, zero, suc, _+_, _*_, _-_, _^_, min}
 use Prim.Native.Char.{code}
-use mathlib.Core.Bool.{Bool, true, false}
+use mathlib.Core.Bool.{Bool, true}
 use mathlib.Core.List.{List, [], _∷_}
 use lib.ListN.{getD, drop}
-use lib.Dec.{leb, eqb}
+use lib.Dec.{leb}
 use Rattle.scan.specs.Bytes.{pick, bytes, is, between, isDigit, isLower, isUpper}
 use Rattle.scan.specs.Number.{readNumber}
 use Rattle.scan.specs.declared.cursor.Leaf.{Leaf}

@@ -33,14 +33,12 @@ drop-store b i x h k =
     drop-cons (set b (i - 1) x) (i - 1) 0 (omega (arith, length-set b (i - 1) x)) ∙ ap (λ y. y ∷ drop (suc (i - 1)) (set b (i - 1) x)) (getD-set-same b (i - 1) x 0 q)
     ∙ ap (λ l. x ∷ l) (drop-set-lt (suc (i - 1)) b (i - 1) x (omega arith) ∙ ap (λ j. drop j b) e)
 
--- the digits, as the part of a buffer of ten bytes from i on
-module _ (b : List ℕ) (i n : ℕ) (e : length b ≡ 10) (d : drop i b ≡ digits 10 n []) where
-  pub part-is : take (10 - i) (drop i b) ≡ unsigned n
-  unfolding unsigned
-  part-is = take-all (10 - i) (drop i b) (omega (arith, length-drop i b)) ∙ d
+-- the digits, as the part of a buffer of k bytes from i on
+module _ (k : ℕ) (b : List ℕ) (i n : ℕ) (e : length b ≡ k) (d : drop i b ≡ digits k n []) where
+  pub part-is : take (k - i) (drop i b) ≡ digits k n []
+  part-is = take-all (k - i) (drop i b) (omega (arith, length-drop i b)) ∙ d
 
-  pub part-length : 10 - i ≡ length (unsigned n)
-  unfolding unsigned
+  pub part-length : k - i ≡ length (digits k n [])
   part-length = ap (λ m. m - i) (sym e) ∙ sym (length-drop i b) ∙ ap length d
 
 -- the sign

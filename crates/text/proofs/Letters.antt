@@ -1,12 +1,14 @@
 -- The words by their letters: each rule is one that antt computes over all words. Assumes nothing.
-use Prim.Native.Nat.{ℕ, zero, suc, _+_, _-_, _≤_, _<_, _/_, _%_}
+use Prim.Native.Nat.{ℕ, zero, suc, _*_, _-_, _≤_, _<_, _/_, _%_}
+use mathlib.Core.Bool.{Bool, true, false}
 use mathlib.Core.Path.{_≡_, refl, sym, ap, _∙_}
 use mathlib.Core.List.{List, [], _∷_, _++_, map}
 use native.Mathlib.Omega.{arith}
-use borrow.Author.Tests.{eq-eqb, ne-eqb}
-use lib.Dec.{eqb}
-use lib.ListN.{List·getD-eq-default}
-use Rattle.scan.specs.Bytes.{pick}
+use borrow.Author.Tests.{eq-eqb, ne-eqb, ltb-true, ltb-false}
+use lib.Dec.{eqb, ltb}
+use lib.ListN.{length, List·getD-eq-default}
+use lib.Seq.{drop-nil}
+use Rattle.scan.specs.Bytes.{pick, bytes}
 use Rattle.scan.proofs.Laws.{on-range, off-keys, range, among, None}
 use Rattle.text.specs.Emit.{lit, none, _⨾_, Wrote}
 use Rattle.text.specs.Words.{words, word}
@@ -40,26 +42,43 @@ spelled-more (suc n) c h k v w =
     let e : suc n - 1 ≡ n = omega arith in
     wrote-is (ap lit (spell-more n c k)) (wrote-both ((c % 256) ∷ []) (spell n (c / 256)) v (rw e at w))
 
--- a word has no letters there: it is none of those that have
-pub missing : (k : ℕ) (keys : List ℕ) → map (λ (w : ℕ). 0) (range 0 144) ≡ map (λ w. pick (among keys w) 0 (piece k w)) (range 0 144) → (w : ℕ) → w < 144 → None w keys → 0 ≡ piece k w
-missing k keys e w h off = off-keys keys 0 144 (λ (w : ℕ). 0) (piece k) e w (omega arith) (omega arith) off
+-- how many words there are, and what is so of each of them and past them is so of every number
+abbrev count : ℕ
+count = length words
 
-module _ (w : ℕ) (h : w < 144) where
+on-words : {A : Type 0} (f g : ℕ → A) (w : ℕ) → (w < count → f w ≡ g w) → (count ≤ w → f w ≡ g w) → f w ≡ g w
+on-words f g w there past = by (ltb w count) refl
+  where
+    by : (b : Bool) → ltb w count ≡ b → f w ≡ g w
+    by true e = there (ltb-true w count e)
+    by false e = past (ltb-false w count e)
+
+no-word : (w : ℕ) → count ≤ w → word w ≡ []
+unfolding word
+no-word w h = ap bytes (List·getD-eq-default words "" {n = w} h)
+
+no-piece : (k w : ℕ) → count ≤ w → 0 ≡ piece k w
+unfolding piece
+no-piece k w h = rw (no-word w h, drop-nil {A = ℕ} (8 * k))
+
+-- a word has no letters there: it is none of those that have
+pub missing : (k : ℕ) (keys : List ℕ) → map (λ (w : ℕ). 0) (range 0 count) ≡ map (λ w. pick (among keys w) 0 (piece k w)) (range 0 count) → (w : ℕ) → None w keys → 0 ≡ piece k w
+missing k keys e w off = on-words (λ (w : ℕ). 0) (piece k) w (λ h. off-keys keys 0 count (λ (w : ℕ). 0) (piece k) e w (omega arith) h off) (no-piece k w)
+
+spelled : (f : ℕ → List ℕ) → map word (range 0 count) ≡ map f (range 0 count) → (w : ℕ) → (word w ≡ [] → f w ≡ []) → word w ≡ f w
+spelled f e w past = on-words word f w (λ h. on-range 0 count word f e w (omega arith) h) (λ h. no-word w h ∙ sym (past (no-word w h)))
+
+module _ (w : ℕ) where
   pub word-one : piece 1 w ≡ 0 → word w ≡ spell 8 (piece 0 w)
   unfolding word piece spell
-  word-one e = on-range 0 144 word (λ w. pick (eqb (piece 1 w) 0) (spell 8 (piece 0 w)) (word w)) refl w (omega arith) h ∙ ap (λ b. pick b (spell 8 (piece 0 w)) (word w)) (eq-eqb (piece 1 w) 0 e)
+  word-one e = spelled (λ w. pick (eqb (piece 1 w) 0) (spell 8 (piece 0 w)) (word w)) refl w (λ n. rw n) ∙ ap (λ b. pick b (spell 8 (piece 0 w)) (word w)) (eq-eqb (piece 1 w) 0 e)
 
   pub word-two : piece 2 w ≡ 0 → word w ≡ spell 8 (piece 0 w) ++ spell 8 (piece 1 w)
   unfolding word piece spell
   word-two e =
-      on-range 0 144 word (λ w. pick (eqb (piece 2 w) 0) (spell 8 (piece 0 w) ++ spell 8 (piece 1 w)) (word w)) refl w (omega arith) h
+      spelled (λ w. pick (eqb (piece 2 w) 0) (spell 8 (piece 0 w) ++ spell 8 (piece 1 w)) (word w)) refl w (λ n. rw n)
       ∙ ap (λ b. pick b (spell 8 (piece 0 w) ++ spell 8 (piece 1 w)) (word w)) (eq-eqb (piece 2 w) 0 e)
 
   pub word-all : word w ≡ spell 8 (piece 0 w) ++ (spell 8 (piece 1 w) ++ (spell 8 (piece 2 w) ++ (spell 8 (piece 3 w) ++ spell 8 (piece 4 w))))
   unfolding word piece spell
-  word-all = on-range 0 144 word (λ w. spell 8 (piece 0 w) ++ (spell 8 (piece 1 w) ++ (spell 8 (piece 2 w) ++ (spell 8 (piece 3 w) ++ spell 8 (piece 4 w))))) refl w (omega arith) h
-
--- there is no such word
-pub wrote-no-word : (w : ℕ) (b : List ℕ) (o : ℕ) → 144 ≤ w → Wrote (lit (word w)) b o b o
-unfolding word lit none
-wrote-no-word w b o h = rw (List·getD-eq-default words "" {n = w} h) (wrote-none b o)
+  word-all = spelled (λ w. spell 8 (piece 0 w) ++ (spell 8 (piece 1 w) ++ (spell 8 (piece 2 w) ++ (spell 8 (piece 3 w) ++ spell 8 (piece 4 w))))) refl w (λ n. rw n)

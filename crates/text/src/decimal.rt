@@ -1,4 +1,4 @@
-// 32-bit numbers in decimal.
+// Numbers in decimal.
 ghost use mathlib.Core.Path.{_≡_};
 ghost use mathlib.Core.List.{[]};
 ghost use Prim.Native.Nat.{_≤_};
@@ -10,7 +10,7 @@ use crate::buffer::fill;
 use crate::buffer::put;
 
 // The digits of n, at the end of buf; where they start.
-fn fill_back(buf: &mut [u8], n: u32) -> usize
+pub fn fill_back(buf: &mut [u8], n: usize) -> usize
     ensures { λ r. ⌜ (r ≤ length (now (buf .exit))) × (drop r (now (buf .exit)) ≡ digits (length (now (buf .entry))) n []) ⌝ }
 {
     let mut i = buf.len();
@@ -32,7 +32,7 @@ fn fill_digits(rest: &mut [u8], n: u32) -> usize
     ensures { λ r. ⌜ (now (rest .exit) ≡ cut (now (rest .entry)) (unsigned n)) × (r ≡ length (unsigned n)) ⌝ }
 {
     let mut buf = [0u8; 10];
-    let i = fill_back(&mut buf, n);
+    let i = fill_back(&mut buf, n as usize);
     fill(rest, &buf[i..]);
     10 - i
 }

@@ -12,13 +12,18 @@ use Rattle.undname.specs.declared.Handed.{Handed}
 use Rattle.undname.specs.declared.Handed.the-variants as handed
 use Rattle.undname.specs.declared.Next.{Next}
 use Rattle.undname.specs.declared.Next.the-variants as next
+use Rattle.lines.specs.Steps.{keptMost}
+
+-- the program's buffers of input and output
+abbrev pub piece : ℕ
+piece = 65536
 
 -- Between two turns nothing waits, and what is kept of the input i is the beginning of a line, unless lines are left for want of room.
 pub record Between (i : List ℕ) (w : Work) : Type 0 where
   pub nothing : w .used ≡ 0
   pub within : w .kept ≤ length i
   pub begun : w .full ≡ false → Open (take (w .kept) i)
-  pub small : w .full ≡ false → w .kept ≤ 4097
+  pub small : w .full ≡ false → w .kept ≤ keptMost
 
 -- the bytes read stand after those kept, and the input has not ended where lines are left
 abbrev pub Reaches : Got → Work → ℕ → Type 0

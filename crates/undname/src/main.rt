@@ -4,16 +4,14 @@ ghost use mathlib.Core.Path.{_≡_};
 ghost use Prim.Native.Nat.{_+_, _≤_, _<_};
 ghost use lib.ListN.{length, take};
 ghost use Rattle.lines.specs.Output.{Open};
-ghost use Rattle.undname.specs.Turns.{Between, Reaches, Emptied, Goes};
+ghost use Rattle.undname.specs.Turns.{piece, Between, Reaches, Emptied, Goes};
+ghost use Rattle.answer_line.specs.Line.{lineCells, lineText, longestAnswer};
+use answer_line::TABLE;
+use answer_line::TEXT;
 use libc::STDERR_FILENO;
 use libc::STDIN_FILENO;
 use libc::STDOUT_FILENO;
 use lines::Work;
-
-// A table of 1,024 nodes.
-const CELLS: usize = 12_288;
-
-const TEXT: usize = 4_096;
 
 const PIECE: usize = 65_536;
 
@@ -86,9 +84,9 @@ fn step_on(
     w: Work,
 ) -> Next
     requires { ⌜ w .kept + came ≤ length (now input) ⌝ }
-    requires { ⌜ w .used + 4100 ≤ length (now out) ⌝ }
-    requires { ⌜ length (now table) ≡ 12288 ⌝ }
-    requires { ⌜ length (now text) ≡ 4096 ⌝ }
+    requires { ⌜ w .used + longestAnswer ≤ length (now out) ⌝ }
+    requires { ⌜ length (now table) ≡ lineCells ⌝ }
+    requires { ⌜ length (now text) ≡ lineText ⌝ }
     ensures { λ r. ⌜ Goes r (now (input .exit)) ⌝ }
 {
     let after = lines::step(input, came, out, table, text, w);
@@ -103,9 +101,9 @@ fn step_on(
 fn last_turn(input: &[u8], out: &mut [u8], table: &mut [u32], text: &mut [u8], w: Work) -> Next
     requires { ⌜ w .kept ≤ length (now input) ⌝ }
     requires { ⌜ Open (take (w .kept) (now input)) ⌝ }
-    requires { ⌜ w .used + 4100 ≤ length (now out) ⌝ }
-    requires { ⌜ length (now table) ≡ 12288 ⌝ }
-    requires { ⌜ length (now text) ≡ 4096 ⌝ }
+    requires { ⌜ w .used + longestAnswer ≤ length (now out) ⌝ }
+    requires { ⌜ length (now table) ≡ lineCells ⌝ }
+    requires { ⌜ length (now text) ≡ lineText ⌝ }
     ensures { λ r. ⌜ Goes r (now (input .entry)) ⌝ }
 {
     let last = lines::finish(input, out, table, text, w);
@@ -118,10 +116,10 @@ fn last_turn(input: &[u8], out: &mut [u8], table: &mut [u32], text: &mut [u8], w
 
 // One read, and all that can be answered then.
 fn turn(input: &mut [u8], out: &mut [u8], table: &mut [u32], text: &mut [u8], w: Work) -> Next
-    requires { ⌜ length (now input) ≡ 65536 ⌝ }
-    requires { ⌜ length (now out) ≡ 65536 ⌝ }
-    requires { ⌜ length (now table) ≡ 12288 ⌝ }
-    requires { ⌜ length (now text) ≡ 4096 ⌝ }
+    requires { ⌜ length (now input) ≡ piece ⌝ }
+    requires { ⌜ length (now out) ≡ piece ⌝ }
+    requires { ⌜ length (now table) ≡ lineCells ⌝ }
+    requires { ⌜ length (now text) ≡ lineText ⌝ }
     requires { ⌜ Between (now input) w ⌝ }
     ensures { λ r. ⌜ Goes r (now (input .exit)) ⌝ }
 {
@@ -135,10 +133,10 @@ fn turn(input: &mut [u8], out: &mut [u8], table: &mut [u32], text: &mut [u8], w:
 
 // Nothing says that the input ends, so the turns are counted down, from a number that no run uses up.
 fn run(input: &mut [u8], out: &mut [u8], table: &mut [u32], text: &mut [u8])
-    requires { ⌜ length (now input) ≡ 65536 ⌝ }
-    requires { ⌜ length (now out) ≡ 65536 ⌝ }
-    requires { ⌜ length (now table) ≡ 12288 ⌝ }
-    requires { ⌜ length (now text) ≡ 4096 ⌝ }
+    requires { ⌜ length (now input) ≡ piece ⌝ }
+    requires { ⌜ length (now out) ≡ piece ⌝ }
+    requires { ⌜ length (now table) ≡ lineCells ⌝ }
+    requires { ⌜ length (now text) ≡ lineText ⌝ }
 {
     let mut turns = u64::MAX;
     let mut w = Work {
@@ -158,7 +156,7 @@ fn run(input: &mut [u8], out: &mut [u8], table: &mut [u32], text: &mut [u8])
 }
 
 fn main() {
-    let mut table = [0u32; CELLS];
+    let mut table = [0u32; TABLE];
     let mut text = [0u8; TEXT];
     let mut input = [0u8; PIECE];
     let mut out = [0u8; PIECE];

@@ -3,7 +3,7 @@ use Prim.Native.Nat.{ℕ, _-_, _≤_, _<_}
 use mathlib.Core.Bool.{Bool, true, false}
 use mathlib.Core.Logic.{_⊎_}
 use mathlib.Core.Path.{_≡_, refl, sym, ap, ap₂, _∙_}
-use mathlib.Core.List.{List, [], _∷_}
+use mathlib.Core.List.{List}
 use native.Mathlib.Decide.{ℕ-discrete}
 use native.Mathlib.Omega.{arith}
 use lib.Dec.{eqb}
@@ -12,13 +12,14 @@ use Rattle.scan.specs.Bytes.{pick}
 use Rattle.node.specs.Cells.{cellOf}
 use Rattle.meaning.specs.Tree.{Tree, node, contentOf, bytesOf, part, treeOf, kidOf}
 use Rattle.meaning.proofs.Trees.{tree-none, tree-is}
-use Rattle.text.specs.Emit.{Text, none, lit, put, _⨾_, when, unless}
+use Rattle.text.specs.Emit.{Text, none, put, _⨾_, when, unless}
 use Rattle.text.specs.Spaces.{or, writeSpace, spaceWhere, afterClose}
-use Rattle.serializer.specs.Serializer.{p, q, kindOf, isEmpty, isLiteral, noCast, serialize, writePre, writePost, writeName, writeNameSpace, writeCast, writeScope, writeFirst, writeParsed, writeTypes, writeOneName, writeOwnName, writeOwnOperator, writeSpacedOperator, writePlainName, writeTmplParams}
+use Rattle.serializer.specs.Serializer.{p, q, kindOf, isEmpty, isLiteral, noCast, serialize, writePre, writePost, writeName, writeNameSpace, writeCast, writeScope, writeFirst, writeParsed, writeOneName, writeOwnName, writeOwnOperator, writeSpacedOperator, writePlainName, writeTmplParams}
 use Rattle.serializer.specs.Lists.{firstEntry, lastEntry, entryAfter, lastOnes}
-use Rattle.serializer.specs.Pieces.{guardOf, castOf}
+use Rattle.serializer.specs.Pieces.{castOf}
 use Rattle.serializer.proofs.Nodes.{numbersAt, node-at, not-empty, empty-none}
 use Rattle.writer.proofs.ByType.{outside}
+use Rattle.node.specs.Kind.{kindNumber, Anonymous, AnonymousId, AsInterface, ConstantString, Md5, MemberFunction, NonTemplate, Operator, ParseResult, ParsedName, RttiBaseClassDescriptor, RttiTypeDescriptor, Template}
 
 pub or-false : (e : Bool) → or e false ≡ e
 or-false true = refl
@@ -89,7 +90,7 @@ pub first-is : (f : ℕ) (T : Tree) {n : Tree} → n ≡ firstEntry T → writeF
 first-is f T e = first-one f T ∙ ap (writeOneName f) (sym e)
 
 -- bytes of the symbol belong to kinds that write no number, and numbers to those that write no bytes
-plain-by : (t y : List ℕ) (n k w x : ℕ) → cellOf t n 0 ≡ k → Dec (k ≡ 6) → Dec (k ≡ 10) → Dec (k ≡ 11) → Dec (k ≡ 15) → Dec (k ≡ 27)
+plain-by : (t y : List ℕ) (n k w x : ℕ) → cellOf t n 0 ≡ k → Dec (k ≡ kindNumber Md5) → Dec (k ≡ kindNumber NonTemplate) → Dec (k ≡ kindNumber AsInterface) → Dec (k ≡ kindNumber AnonymousId) → Dec (k ≡ kindNumber ConstantString)
     → writePlainName k (p (numbersAt k (cellOf t n 7) (cellOf t n 8) w x)) (bytesOf t y n) ≡ writePlainName k (cellOf t n 7) (part y (cellOf t n 7) (cellOf t n 8))
 unfolding writePlainName contentOf bytesOf
 plain-by t y n k w x c (yes e) d₁ d₂ d₃ d₄ = rw (c ∙ e, e)
@@ -102,7 +103,7 @@ plain-by t y n k w x c (no m) (no l) (no i) (no j) (no z) = rw (c, ne-eqb k 6 m,
 -- the node that r names, by its kind
 module _ (f : ℕ) (t y : List ℕ) {r k : ℕ} (h : 0 < r) (e : k ≡ cellOf t (r - 1) 0) where
   pub one-plain : {u v : ℕ} → u ≡ cellOf t (r - 1) 7 → v ≡ cellOf t (r - 1) 8
-      → (k ≡ 7 → ⊥) → (k ≡ 8 → ⊥) → (k ≡ 9 → ⊥) → (k ≡ 12 → ⊥) → (k ≡ 14 → ⊥) → writeOneName f (treeOf t y r) ≡ writePlainName k u (part y u v)
+      → (k ≡ kindNumber Operator → ⊥) → (k ≡ kindNumber RttiTypeDescriptor → ⊥) → (k ≡ kindNumber RttiBaseClassDescriptor → ⊥) → (k ≡ kindNumber Template → ⊥) → (k ≡ kindNumber ParsedName → ⊥) → writeOneName f (treeOf t y r) ≡ writePlainName k u (part y u v)
   unfolding writeOneName
   one-plain eu ev n₁ n₂ n₃ n₄ n₅ =
       ap (writeOneName f) (node-at t y h k e refl refl refl refl refl refl refl refl) ∙ rw (ne-eqb k 7 n₁, ne-eqb k 8 n₂, ne-eqb k 9 n₃, ne-eqb k 12 n₄, ne-eqb k 14 n₅)
@@ -110,23 +111,23 @@ module _ (f : ℕ) (t y : List ℕ) {r k : ℕ} (h : 0 < r) (e : k ≡ cellOf t 
       ∙ ap₂ (λ m n. writePlainName k m (part y m n)) (sym eu) (sym ev))
 
   module _ (g : ℕ) (cast : Text) (alone : Bool) (first one : Text) where
-    pub own-operator : {u : ℕ} (parsed : Text) → u ≡ cellOf t (r - 1) 7 → k ≡ 7 → writeOwnName g cast alone first (treeOf t y r) one parsed ≡ writeOwnOperator g cast alone first u
+    pub own-operator : {u : ℕ} (parsed : Text) → u ≡ cellOf t (r - 1) 7 → k ≡ kindNumber Operator → writeOwnName g cast alone first (treeOf t y r) one parsed ≡ writeOwnOperator g cast alone first u
     unfolding writeOwnName contentOf
     own-operator parsed eu q = ap (λ T. writeOwnName g cast alone first T one parsed) (node-at t y h 7 e q refl refl refl eu refl refl refl)
 
-    pub own-parsed : {a : ℕ} → a ≡ kidOf t (r - 1) 4 → k ≡ 14 → writeOwnName g cast alone first (treeOf t y r) one (writeParsed f (treeOf t y r)) ≡ serialize f (treeOf t y a)
+    pub own-parsed : {a : ℕ} → a ≡ kidOf t (r - 1) 4 → k ≡ kindNumber ParsedName → writeOwnName g cast alone first (treeOf t y r) one (writeParsed f (treeOf t y r)) ≡ serialize f (treeOf t y a)
     unfolding writeOwnName writeParsed
     own-parsed ea q = ap (λ T. writeOwnName g cast alone first T one (writeParsed f T)) (node-at t y h 14 e q ea refl refl refl refl refl refl)
 
-    pub own-anonymous : (parsed : Text) → 15 ≤ k → k ≤ 16 → writeOwnName g cast alone first (treeOf t y r) one parsed ≡ none
+    pub own-anonymous : (parsed : Text) → kindNumber AnonymousId ≤ k → k ≤ kindNumber Anonymous → writeOwnName g cast alone first (treeOf t y r) one parsed ≡ none
     unfolding writeOwnName
     own-anonymous parsed l m = go (ℕ-discrete k 15)
       where
-        go : Dec (k ≡ 15) → writeOwnName g cast alone first (treeOf t y r) one parsed ≡ none
+        go : Dec (k ≡ kindNumber AnonymousId) → writeOwnName g cast alone first (treeOf t y r) one parsed ≡ none
         go (yes q) = ap (λ T. writeOwnName g cast alone first T one parsed) (node-at t y h 15 e q refl refl refl refl refl refl refl)
         go (no n) = ap (λ T. writeOwnName g cast alone first T one parsed) (node-at t y h 16 e (omega (arith, n)) refl refl refl refl refl refl refl)
 
-    pub own-rest : (parsed : Text) → (k ≡ 7 → ⊥) → (k ≡ 14 → ⊥) → (k < 15) ⊎ (16 < k) → writeOwnName g cast alone first (treeOf t y r) one parsed ≡ one
+    pub own-rest : (parsed : Text) → (k ≡ kindNumber Operator → ⊥) → (k ≡ kindNumber ParsedName → ⊥) → (k < kindNumber AnonymousId) ⊎ (kindNumber Anonymous < k) → writeOwnName g cast alone first (treeOf t y r) one parsed ≡ one
     unfolding writeOwnName
     own-rest parsed n₁ n₂ n₃ =
         ap (λ T. writeOwnName g cast alone first T one parsed) (node-at t y h k e refl refl refl refl refl refl refl refl)
@@ -138,16 +139,16 @@ unfolding writeOwnOperator
 operator-rest g cast alone first op n₁ n₂ n₃ n₄ n₅ = rw (ne-eqb op 0 n₁, ne-eqb op 1 n₂, ne-eqb op 44 n₄, ne-eqb op 11 n₃, ne-eqb op 68 n₅)
 
 -- what a Conversion is called
-pub cast-is : (f : ℕ) (t y : List ℕ) {r b : ℕ} → 0 < r → cellOf t (r - 1) 0 ≡ 3 → b ≡ kidOf t (r - 1) 5 → castOf f (treeOf t y r) ≡ writeCast f (treeOf t y b)
+pub cast-is : (f : ℕ) (t y : List ℕ) {r b : ℕ} → 0 < r → cellOf t (r - 1) 0 ≡ kindNumber ParseResult → b ≡ kidOf t (r - 1) 5 → castOf f (treeOf t y r) ≡ writeCast f (treeOf t y b)
 unfolding castOf
 cast-is f t y h e eb = ap (castOf f) (node-at t y h 3 refl e refl eb refl refl refl refl refl)
 
-pub cast-other : (f : ℕ) (T : Tree) → (kindOf T ≡ 18 → ⊥) → writeCast f T ≡ noCast
+pub cast-other : (f : ℕ) (T : Tree) → (kindOf T ≡ kindNumber MemberFunction → ⊥) → writeCast f T ≡ noCast
 unfolding writeCast
 cast-other f Tree.none n = refl
 cast-other f (node k x s a b c) n = rw (ne-eqb k 18 n)
 
-pub cast-member : (f : ℕ) (t y : List ℕ) {r a : ℕ} → 0 < r → cellOf t (r - 1) 0 ≡ 18 → a ≡ kidOf t (r - 1) 4
+pub cast-member : (f : ℕ) (t y : List ℕ) {r a : ℕ} → 0 < r → cellOf t (r - 1) 0 ≡ kindNumber MemberFunction → a ≡ kidOf t (r - 1) 4
     → writeCast f (treeOf t y r) ≡ put "operator " ⨾ writePre f (treeOf t y a) ⨾ writePost f (treeOf t y a)
 unfolding writeCast
 cast-member f t y h e ea = ap (writeCast f) (node-at t y h 18 refl e ea refl refl refl refl refl refl)

@@ -4,13 +4,12 @@ use mathlib.Core.Path.{_≡_, sym, ap, _∙_}
 use mathlib.Core.List.{List}
 use native.Mathlib.Decide.{decLe}
 use native.Mathlib.Omega.{arith}
-use lib.ListN.{length, take}
+use lib.ListN.{length}
 use borrow.Author.Tests.{le-leb, lt-leb}
 use Rattle.scan.specs.Bytes.{pick}
 use Rattle.text.specs.Emit.{Text, Wrote, cut, lastAt, lastOf}
 use Rattle.text.proofs.Room.{exact}
 use Rattle.writer.specs.Written.{written}
-use Rattle.writer.specs.declared.Written.{Written}
 use Rattle.writer.specs.declared.Written.the-variants.{Whole, Cut}
 
 module _ {T : Text} {b b′ : List ℕ} {o : ℕ} (w : Wrote T b 0 b′ o) where
@@ -28,4 +27,4 @@ module _ {T : Text} {b b′ : List ℕ} {o : ℕ} (w : Wrote T b 0 b′ o) where
 
   pub ends-whole : o ≤ length b → Whole o ≡ written (length b) (T 256)
   unfolding written
-  ends-whole h = ap Whole (exact w .1 h .0) ∙ sym (ap (λ e. pick e (Whole (length (T 256))) Cut) (le-leb (length (T 256)) (length b) (exact w .0 .0 h)))
+  ends-whole h = ap Whole (exact w .1 h) ∙ sym (ap (λ e. pick e (Whole (length (T 256))) Cut) (le-leb (length (T 256)) (length b) (exact w .0 .0 h)))

@@ -4,17 +4,25 @@ ghost use mathlib.Core.Path.{_≡_};
 ghost use Prim.Native.Nat.{_<_, _≤_, _-_};
 ghost use mathlib.Core.Logic.{_⊎_};
 ghost use Rattle.scan.specs.Bytes.{pick};
-ghost use Rattle.node.specs.Cells.{cellOf};
+ghost use Rattle.node.specs.Cells as cells;
+ghost use Rattle.node.specs.Cells.{cellOf, KIND};
+ghost use Rattle.node.specs.Kind.{kindNumber, Alias, Enum, MemberFunction, MemberFunctionPointer, NonMemberFunction, Ptr, RValueRef};
 ghost use Rattle.text.specs.Spaces.{writeSpace};
 ghost use lib.ListN.{length};
-ghost use Rattle.text.specs.Emit.{Wrote, cut, unless, _⨾_, lit, put};
+ghost use Rattle.text.specs.Emit.{Wrote, cut, unless, _⨾_, put};
 ghost use Rattle.meaning.specs.Tree.{treeOf};
 ghost use Rattle.serializer.specs.Serializer.{serialize, writePre, writeReturn, writePointee, writePost, writeTypes, writeOneName, writeScope, writeFirst, writeParsed, writeName, writeOwnName, writeOwnOperator, writeTmplParams, writeBaseClassDescriptor, noReturn, isEmpty};
 ghost use Rattle.serializer.specs.Lists.{lastOnes, lastEntry};
 ghost use Rattle.serializer.specs.Pieces.{guardOf, castOf};
 ghost use Rattle.writer.specs.Written.{textOf, written};
+use letters::storage;
 use meaning::kid;
-use node::cell;
+use node::cells;
+use node::kind;
+use node::kinds;
+use operators::CONVERSION;
+use serializer::flags::NAME_ONLY;
+use serializer::flags::NO_FUNCTION_RETURNS;
 use serializer::lists::count_some;
 use serializer::lists::first_entry;
 use serializer::lists::guard_at;
@@ -48,10 +56,6 @@ use text::decimal::put_decimal;
 use text::spaces::put_space;
 use text::words::put_word;
 
-const NO_FUNCTION_RETURNS: u32 = 4;
-
-const NAME_ONLY: u32 = 4096;
-
 pub enum Written {
     Whole(usize),
     Cut,
@@ -76,13 +80,13 @@ fn parsed(table: &[u32], symbol: &[u8], text: &mut [u8], o: usize, r: usize, fla
     if text.len() < o {
         return o;
     }
-    if kind_at(table, r) != 3 {
+    if kind_at(table, r) != kinds::PARSE_RESULT {
         return o;
     }
     let m = r - 1;
-    let ty = kid(table, m, 5);
+    let ty = kid(table, m, cells::B);
     let o1 = leading(table, symbol, text, o, ty, flags);
-    let o2 = name(table, symbol, text, o1, kid(table, m, 4), flags, r);
+    let o2 = name(table, symbol, text, o1, kid(table, m, cells::A), flags, r);
     if flags / NAME_ONLY % 2 == 1 {
         return o2;
     }
@@ -102,7 +106,7 @@ fn leading(table: &[u32], symbol: &[u8], text: &mut [u8], o: usize, r: usize, fl
     front(table, symbol, text, o, r, flags)
 }
 
-// The first half of a type.
+// The first half of a type, an arm for each kind.
 fn front(table: &[u32], symbol: &[u8], text: &mut [u8], o: usize, r: usize, flags: u32) -> usize
     ensures { λ p. ⌜ Wrote (writePre flags (treeOf (now (table .entry)) (now (symbol .entry)) r)) (now (text .entry)) o (now (text .exit)) p ⌝ }
 {
@@ -113,58 +117,65 @@ fn front(table: &[u32], symbol: &[u8], text: &mut [u8], o: usize, r: usize, flag
         return o;
     }
     let m = r - 1;
-    let k = cell(table, m, 0);
-    let a = kid(table, m, 4);
+    let k = kind(table, m);
+    let a = kid(table, m, cells::A);
     match k {
-        18 => {
-            let o1 = put_func_class(text, o, flags, number(table, m, 9));
+        kinds::MEMBER_FUNCTION => {
+            let o1 = put_func_class(text, o, flags, number(table, m, cells::R));
             let o2 = front(table, symbol, text, o1, a, flags);
-            put_calling_conv(text, o2, flags, number(table, m, 8))
+            put_calling_conv(text, o2, flags, number(table, m, cells::Q))
         }
-        19 => member(table, symbol, text, o, r, flags),
-        20 => {
+        kinds::MEMBER_FUNCTION_POINTER => member(table, symbol, text, o, r, flags),
+        kinds::NON_MEMBER_FUNCTION => {
             let o1 = front(table, symbol, text, o, a, flags);
-            put_calling_conv(text, o1, flags, number(table, m, 8))
+            put_calling_conv(text, o1, flags, number(table, m, cells::Q))
         }
-        28..=30 => pointer(table, symbol, text, o, r, flags),
-        31 => {
+        kinds::PTR..=kinds::RVALUE_REF => pointer(table, symbol, text, o, r, flags),
+        kinds::ARRAY => {
             let o1 = front(table, symbol, text, o, a, flags);
-            put_storage_class(text, o1, flags, number(table, m, 7))
+            put_storage_class(text, o1, flags, number(table, m, cells::P))
         }
-        32 => {
-            let o1 = put_var_kind(text, o, number(table, m, 8));
+        kinds::VAR => {
+            let o1 = put_var_kind(text, o, number(table, m, cells::Q));
             let o2 = front(table, symbol, text, o1, a, flags);
-            put_storage_class(text, o2, flags, number(table, m, 7))
+            put_storage_class(text, o2, flags, number(table, m, cells::P))
         }
-        33..=37 => class(table, symbol, text, o, r, flags),
-        _ => put_plain(text, o, flags, k, number(table, m, 7), number(table, m, 8)),
+        kinds::ALIAS..=kinds::ENUM => class(table, symbol, text, o, r, flags),
+        _ => put_plain(
+            text,
+            o,
+            flags,
+            k,
+            number(table, m, cells::P),
+            number(table, m, cells::Q),
+        ),
     }
 }
 
 // A MemberFunctionPointer.
 fn member(table: &[u32], symbol: &[u8], text: &mut [u8], o: usize, r: usize, flags: u32) -> usize
-    requires { ⌜ (0 < r) × (cellOf (now table) (r - 1) 0 ≡ 19) ⌝ }
+    requires { ⌜ (0 < r) × (cellOf (now table) (r - 1) KIND ≡ kindNumber MemberFunctionPointer) ⌝ }
     ensures { λ p. ⌜ Wrote (writePre flags (treeOf (now (table .entry)) (now (symbol .entry)) r)) (now (text .entry)) o (now (text .exit)) p ⌝ }
 {
     let m = r - 1;
-    let o1 = front(table, symbol, text, o, kid(table, m, 4), flags);
-    let o2 = put_opening(text, o1, flags, number(table, m, 8));
+    let o1 = front(table, symbol, text, o, kid(table, m, cells::A), flags);
+    let o2 = put_opening(text, o1, flags, number(table, m, cells::Q));
     let o3 = put_space(text, o2, text::spaces::ANY);
     let o4 = put_space(text, o3, text::spaces::ANY);
-    let o5 = name(table, symbol, text, o4, kid(table, m, 6), flags, r);
+    let o5 = name(table, symbol, text, o4, kid(table, m, cells::C), flags, r);
     put_word(text, o5, text::words::MEMBER)
 }
 
 // A Ptr, a Ref or an RValueRef.
 fn pointer(table: &[u32], symbol: &[u8], text: &mut [u8], o: usize, r: usize, flags: u32) -> usize
-    requires { ⌜ (0 < r) × (28 ≤ cellOf (now table) (r - 1) 0) × (cellOf (now table) (r - 1) 0 ≤ 30) ⌝ }
+    requires { ⌜ (0 < r) × (kindNumber Ptr ≤ cellOf (now table) (r - 1) KIND) × (cellOf (now table) (r - 1) KIND ≤ kindNumber RValueRef) ⌝ }
     ensures { λ p. ⌜ Wrote (writePre flags (treeOf (now (table .entry)) (now (symbol .entry)) r)) (now (text .entry)) o (now (text .exit)) p ⌝ }
 {
     let m = r - 1;
-    let o1 = pointee(table, symbol, text, o, kid(table, m, 4), flags);
+    let o1 = pointee(table, symbol, text, o, kid(table, m, cells::A), flags);
     let o2 = put_hug(text, o1, flags);
-    let o3 = put_mark(text, o2, cell(table, m, 0));
-    put_storage_class(text, o3, flags, number(table, m, 7))
+    let o3 = put_mark(text, o2, kind(table, m));
+    put_storage_class(text, o3, flags, number(table, m, cells::P))
 }
 
 // What stands before `*`, `&` or `&&`.
@@ -175,17 +186,17 @@ fn pointee(table: &[u32], symbol: &[u8], text: &mut [u8], o: usize, r: usize, fl
         return o;
     }
     let m = r - 1;
-    let k = cell(table, m, 0);
+    let k = kind(table, m);
     match k {
-        18 => {
-            let o1 = front(table, symbol, text, o, kid(table, m, 4), flags);
-            put_opening(text, o1, flags, number(table, m, 8))
+        kinds::MEMBER_FUNCTION => {
+            let o1 = front(table, symbol, text, o, kid(table, m, cells::A), flags);
+            put_opening(text, o1, flags, number(table, m, cells::Q))
         }
-        20 => {
-            let o1 = front(table, symbol, text, o, kid(table, m, 4), flags);
-            put_opening(text, o1, flags, number(table, m, 8))
+        kinds::NON_MEMBER_FUNCTION => {
+            let o1 = front(table, symbol, text, o, kid(table, m, cells::A), flags);
+            put_opening(text, o1, flags, number(table, m, cells::Q))
         }
-        31 => {
+        kinds::ARRAY => {
             let o1 = front(table, symbol, text, o, r, flags);
             let o2 = put_space(text, o1, text::spaces::ANY);
             put(text, o2, b'(')
@@ -196,13 +207,13 @@ fn pointee(table: &[u32], symbol: &[u8], text: &mut [u8], o: usize, r: usize, fl
 
 // An Alias, a Struct, a Union, a Class or an Enum.
 fn class(table: &[u32], symbol: &[u8], text: &mut [u8], o: usize, r: usize, flags: u32) -> usize
-    requires { ⌜ (0 < r) × (33 ≤ cellOf (now table) (r - 1) 0) × (cellOf (now table) (r - 1) 0 ≤ 37) ⌝ }
+    requires { ⌜ (0 < r) × (kindNumber Alias ≤ cellOf (now table) (r - 1) KIND) × (cellOf (now table) (r - 1) KIND ≤ kindNumber Enum) ⌝ }
     ensures { λ p. ⌜ Wrote (writePre flags (treeOf (now (table .entry)) (now (symbol .entry)) r)) (now (text .entry)) o (now (text .exit)) p ⌝ }
 {
     let m = r - 1;
-    let o1 = put_class_name(text, o, flags, cell(table, m, 0));
-    let o2 = name(table, symbol, text, o1, kid(table, m, 4), flags, r);
-    put_storage_class(text, o2, flags, number(table, m, 7))
+    let o1 = put_class_name(text, o, flags, kind(table, m));
+    let o2 = name(table, symbol, text, o1, kid(table, m, cells::A), flags, r);
+    put_storage_class(text, o2, flags, number(table, m, cells::P))
 }
 
 // The second half of a type.
@@ -216,60 +227,60 @@ fn back(table: &[u32], symbol: &[u8], text: &mut [u8], o: usize, r: usize, flags
         return o;
     }
     let m = r - 1;
-    let k = cell(table, m, 0);
-    let a = kid(table, m, 4);
+    let k = kind(table, m);
+    let a = kid(table, m, cells::A);
     match k {
-        18 => function(table, symbol, text, o, r, flags),
-        19 => returned(table, symbol, text, o, r, flags),
-        20 => function(table, symbol, text, o, r, flags),
-        21 => {
+        kinds::MEMBER_FUNCTION => function(table, symbol, text, o, r, flags),
+        kinds::MEMBER_FUNCTION_POINTER => returned(table, symbol, text, o, r, flags),
+        kinds::NON_MEMBER_FUNCTION => function(table, symbol, text, o, r, flags),
+        kinds::VBTABLE => {
             let o1 = scope(table, symbol, text, o, a, flags);
             put_word(text, o1, text::words::VBTABLE_END)
         }
-        22 => vftable(table, symbol, text, o, a, flags),
-        23 => put_flat(text, o, flags, number(table, m, 7)),
-        28..=29 => {
+        kinds::VFTABLE => vftable(table, symbol, text, o, a, flags),
+        kinds::VCALL_THUNK => put_flat(text, o, flags, number(table, m, cells::P)),
+        kinds::PTR..=kinds::REF => {
             let o1 = put_closing(text, o, kind_at(table, a));
             back(table, symbol, text, o1, a, flags)
         }
-        31 => {
+        kinds::ARRAY => {
             let o1 = put(text, o, b'[');
-            let o2 = put_decimal(text, o1, number(table, m, 8));
+            let o2 = put_decimal(text, o1, number(table, m, cells::Q));
             let o3 = put(text, o2, b']');
             back(table, symbol, text, o3, a, flags)
         }
-        32 => back(table, symbol, text, o, a, flags),
+        kinds::VAR => back(table, symbol, text, o, a, flags),
         _ => o,
     }
 }
 
 // The second half of a function.
 fn function(table: &[u32], symbol: &[u8], text: &mut [u8], o: usize, r: usize, flags: u32) -> usize
-    requires { ⌜ (0 < r) × ((cellOf (now table) (r - 1) 0 ≡ 18) ⊎ (cellOf (now table) (r - 1) 0 ≡ 20)) ⌝ }
+    requires { ⌜ (0 < r) × ((cellOf (now table) (r - 1) KIND ≡ kindNumber MemberFunction) ⊎ (cellOf (now table) (r - 1) KIND ≡ kindNumber NonMemberFunction)) ⌝ }
     ensures { λ p. ⌜ Wrote (writePost flags (treeOf (now (table .entry)) (now (symbol .entry)) r)) (now (text .entry)) o (now (text .exit)) p ⌝ }
 {
     let m = r - 1;
     let o1 = put(text, o, b'(');
-    let o2 = types(table, symbol, text, o1, kid(table, m, 5), flags);
+    let o2 = types(table, symbol, text, o1, kid(table, m, cells::B), flags);
     let o3 = put(text, o2, b')');
-    let o4 = put_memfn_qualifiers(text, o3, flags, number(table, m, 7));
-    back(table, symbol, text, o4, kid(table, m, 4), flags)
+    let o4 = put_memfn_qualifiers(text, o3, flags, number(table, m, cells::P));
+    back(table, symbol, text, o4, kid(table, m, cells::A), flags)
 }
 
 // The second half of a MemberFunctionPointer.
 fn returned(table: &[u32], symbol: &[u8], text: &mut [u8], o: usize, r: usize, flags: u32) -> usize
-    requires { ⌜ (0 < r) × (cellOf (now table) (r - 1) 0 ≡ 19) ⌝ }
+    requires { ⌜ (0 < r) × (cellOf (now table) (r - 1) KIND ≡ kindNumber MemberFunctionPointer) ⌝ }
     ensures { λ p. ⌜ Wrote (writePost flags (treeOf (now (table .entry)) (now (symbol .entry)) r)) (now (text .entry)) o (now (text .exit)) p ⌝ }
 {
     let m = r - 1;
     let o1 = put_word(text, o, text::words::BETWEEN);
-    let o2 = types(table, symbol, text, o1, kid(table, m, 5), flags);
+    let o2 = types(table, symbol, text, o1, kid(table, m, cells::B), flags);
     let o3 = put(text, o2, b')');
-    let o4 = back(table, symbol, text, o3, kid(table, m, 4), flags);
+    let o4 = back(table, symbol, text, o3, kid(table, m, cells::A), flags);
     put_apart_if(
         text,
         o4,
-        number(table, m, 7) / 1 % 2 == 1,
+        number(table, m, cells::P) / storage::CONST % 2 == 1,
         text::words::CONST,
     )
 }
@@ -334,8 +345,8 @@ fn entry(table: &[u32], symbol: &[u8], text: &mut [u8], o: usize, r: usize, flag
         return o;
     }
     let m = r - 1;
-    let b = kid(table, m, 5);
-    let o1 = put_comma_if(text, o, flags, has_some(table, kid(table, m, 4)));
+    let b = kid(table, m, cells::B);
+    let o1 = put_comma_if(text, o, flags, has_some(table, kid(table, m, cells::A)));
     let o2 = front(table, symbol, text, o1, b, flags);
     back(table, symbol, text, o2, b, flags)
 }
@@ -360,8 +371,8 @@ fn name(
         return o;
     }
     let m = r - 1;
-    let a = kid(table, m, 4);
-    let b = kid(table, m, 5);
+    let a = kid(table, m, cells::A);
+    let b = kid(table, m, cells::B);
     let literal = is_literal(table, a);
     let o1 = put_name_space(text, o, flags);
     let o2 = put_apart_if(text, o1, literal, text::words::LITERAL);
@@ -387,9 +398,9 @@ fn own(
     if a == 0 {
         return o;
     }
-    let k = cell(table, a - 1, 0);
+    let k = kind(table, a - 1);
     match k {
-        7 => own_operator(
+        kinds::OPERATOR => own_operator(
             table,
             symbol,
             text,
@@ -397,10 +408,10 @@ fn own(
             b,
             flags,
             up,
-            number(table, a - 1, 7),
+            number(table, a - 1, cells::P),
         ),
-        14 => parsed(table, symbol, text, o, kid(table, a - 1, 4), flags),
-        15..=16 => o,
+        kinds::PARSED_NAME => parsed(table, symbol, text, o, kid(table, a - 1, cells::A), flags),
+        kinds::ANONYMOUS_ID..=kinds::ANONYMOUS => o,
         _ => one(table, symbol, text, o, a, flags),
     }
 }
@@ -420,11 +431,11 @@ fn own_operator(
     ensures { λ p. ⌜ Wrote (writeOwnOperator (guardOf (treeOf (now (table .entry)) (now (symbol .entry)) up)) (castOf flags (treeOf (now (table .entry)) (now (symbol .entry)) up)) (isEmpty (treeOf (now (table .entry)) (now (symbol .entry)) b)) (writeFirst flags (treeOf (now (table .entry)) (now (symbol .entry)) b)) op) (now (text .entry)) o (now (text .exit)) p ⌝ }
 {
     match op {
-        0 => structor(table, symbol, text, o, b, flags),
-        1 => destructor(table, symbol, text, o, b, flags),
-        11 => cast(table, symbol, text, o, up, flags),
-        44 => put_word(text, o, text::words::VBTABLE),
-        68 => o,
+        operators::CTOR => structor(table, symbol, text, o, b, flags),
+        operators::DTOR => destructor(table, symbol, text, o, b, flags),
+        operators::CONVERSION => cast(table, symbol, text, o, up, flags),
+        operators::VBTABLE => put_word(text, o, text::words::VBTABLE),
+        operators::LITERAL_OPERATOR_NAME => o,
         _ => put_operator(text, o, guard_at(table, up), op),
     }
 }
@@ -461,14 +472,14 @@ fn destructor(
 fn cast(table: &[u32], symbol: &[u8], text: &mut [u8], o: usize, up: usize, flags: u32) -> usize
     ensures { λ p. ⌜ Wrote (castOf flags (treeOf (now (table .entry)) (now (symbol .entry)) up)) (now (text .entry)) o (now (text .exit)) p ⌝ }
 {
-    if kind_at(table, up) != 3 {
-        return put_operator(text, o, 0, 11);
+    if kind_at(table, up) != kinds::PARSE_RESULT {
+        return put_operator(text, o, 0, CONVERSION);
     }
-    let ty = kid(table, up - 1, 5);
-    if kind_at(table, ty) != 18 {
-        return put_operator(text, o, 0, 11);
+    let ty = kid(table, up - 1, cells::B);
+    if kind_at(table, ty) != kinds::MEMBER_FUNCTION {
+        return put_operator(text, o, 0, CONVERSION);
     }
-    let to = kid(table, ty - 1, 4);
+    let to = kid(table, ty - 1, cells::A);
     let o1 = put_word(text, o, text::words::OPERATOR);
     let o2 = front(table, symbol, text, o1, to, flags);
     back(table, symbol, text, o2, to, flags)
@@ -485,42 +496,49 @@ fn one(table: &[u32], symbol: &[u8], text: &mut [u8], o: usize, r: usize, flags:
         return o;
     }
     let m = r - 1;
-    let k = cell(table, m, 0);
-    let a = kid(table, m, 4);
+    let k = kind(table, m);
+    let a = kid(table, m, cells::A);
     match k {
-        7 => put_operator(text, o, 0, number(table, m, 7)),
-        8 => {
+        kinds::OPERATOR => put_operator(text, o, 0, number(table, m, cells::P)),
+        kinds::RTTI_TYPE_DESCRIPTOR => {
             let o1 = put_space(text, o, text::spaces::ANY);
             let o2 = front(table, symbol, text, o1, a, flags);
             put_word(text, o2, text::words::TYPE_DESCRIPTOR)
         }
-        9 => descriptor(table, text, o, m, flags),
-        12 => {
+        kinds::RTTI_BASE_CLASS_DESCRIPTOR => descriptor(table, text, o, m, flags),
+        kinds::TEMPLATE => {
             let o1 = one(table, symbol, text, o, a, flags);
-            params(table, symbol, text, o1, kid(table, m, 5), flags)
+            params(table, symbol, text, o1, kid(table, m, cells::B), flags)
         }
-        14 => {
+        kinds::PARSED_NAME => {
             let o1 = put(text, o, b'`');
             let o2 = parsed(table, symbol, text, o1, a, flags);
             put(text, o2, b'\'')
         }
-        _ => put_plain_name(symbol, text, o, k, number(table, m, 7), number(table, m, 8)),
+        _ => put_plain_name(
+            symbol,
+            text,
+            o,
+            k,
+            number(table, m, cells::P),
+            number(table, m, cells::Q),
+        ),
     }
 }
 
 // An RTTI base class descriptor, node n.
 fn descriptor(table: &[u32], text: &mut [u8], o: usize, n: usize, flags: u32) -> usize
-    ensures { λ p. ⌜ Wrote (writeSpace ⨾ writeBaseClassDescriptor flags (cellOf (now (table .entry)) n 7) (cellOf (now (table .entry)) n 8) (cellOf (now (table .entry)) n 9) (cellOf (now (table .entry)) n 10)) (now (text .entry)) o (now (text .exit)) p ⌝ }
+    ensures { λ p. ⌜ Wrote (writeSpace ⨾ writeBaseClassDescriptor flags (cellOf (now (table .entry)) n cells.P) (cellOf (now (table .entry)) n cells.Q) (cellOf (now (table .entry)) n cells.R) (cellOf (now (table .entry)) n cells.S)) (now (text .entry)) o (now (text .exit)) p ⌝ }
 {
     let o1 = put_space(text, o, text::spaces::ANY);
     put_base_class(
         text,
         o1,
         flags,
-        number(table, n, 7),
-        number(table, n, 8),
-        number(table, n, 9),
-        number(table, n, 10),
+        number(table, n, cells::P),
+        number(table, n, cells::Q),
+        number(table, n, cells::R),
+        number(table, n, cells::S),
     )
 }
 
@@ -548,8 +566,8 @@ fn scope(table: &[u32], symbol: &[u8], text: &mut [u8], o: usize, r: usize, flag
             break;
         }
         let m = p - 1;
-        let named = one(table, symbol, text, at, kid(table, m, 5), flags);
-        p = kid(table, m, 4);
+        let named = one(table, symbol, text, at, kid(table, m, cells::B), flags);
+        p = kid(table, m, cells::A);
         at = put_colons(text, named, p == 0, false);
     }
     at

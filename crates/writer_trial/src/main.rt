@@ -6,6 +6,7 @@ use grammar::Refusal;
 use libc::STDIN_FILENO;
 use libc::STDOUT_FILENO;
 use reader::Whole;
+use scan::limits::DEEPEST_READING;
 use writer::Written;
 
 const CELLS: usize = 120_000;
@@ -80,7 +81,7 @@ fn refusal_number(why: Refusal) -> u64 {
 }
 
 fn run_symbol(symbol: &[u8], table: &mut [u32], text: &mut [u8], flags: u32) {
-    let r = reader::read(symbol, table, 200);
+    let r = reader::read(symbol, table, DEEPEST_READING);
     let a = r.answer;
     match a {
         Whole::Outside => {

@@ -6,6 +6,7 @@ use Rattle.text.specs.Emit.{lit}
 use Rattle.text.proofs.Seq.{wrote-is}
 use Rattle.answer_line.specs.Line.{answerLine}
 use Rattle.answer_line.proofs.Answers.{text-fits, same-line, table-nodes}
+use Rattle.scan.specs.Limits.{deepestReading}
 use borrow.Author.Needs.{needs}
 use Rattle.answer_line.proofs.answer_line.Statement.{statement}
 use Rattle.answer_line.proofs.answer_line.Tie as tie
@@ -17,7 +18,7 @@ put-answer-requires : tie.Need-put-answer-requires
 put-answer-requires c κs =
     let at-demangle = c .before .before .before .before .before .before in
     let entry = at-demangle .before .before .before .before .before .before .before in
-    λ k q. omega (arith, text-fits 0 200 (entry .args .line .now) (entry .args .table .now) _ k (sym (at-demangle .demangle .ensures .0) ∙ q))
+    λ k q. omega (arith, text-fits 0 deepestReading (entry .args .line .now) (entry .args .table .now) _ k (sym (at-demangle .demangle .ensures .0) ∙ q))
 
 same-length : tie.Need-same-length
 same-length c = search needs

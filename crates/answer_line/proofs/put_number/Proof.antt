@@ -3,7 +3,8 @@
 use mathlib.Core.Path.{sym, ap}
 use Rattle.text.specs.Emit.{lit}
 use Rattle.text.proofs.Seq.{wrote-is}
-use Rattle.answer_line.proofs.Answers.{digits-part}
+use Rattle.text.proofs.Digits.{part-is}
+use Rattle.answer_line.specs.Line.{decimal}
 use borrow.Author.Needs.{needs}
 use Rattle.answer_line.proofs.put_number.Statement.{statement}
 use Rattle.answer_line.proofs.put_number.Tie as tie
@@ -30,10 +31,11 @@ same-length : tie.Need-same-length
 same-length c = search needs
 
 returns : tie.Need-returns
+unfolding decimal
 returns c =
     let at-put-bytes = c .before .before in
     let at-fill-back = at-put-bytes .before .before .before .before .before in
-    wrote-is (ap lit (sym (digits-part (at-fill-back .fill-back .last .0) (at-fill-back .fill-back .result) _ (at-fill-back .fill-back .kept .0) (at-fill-back .fill-back .ensures .1)))) (at-put-bytes .put-bytes .ensures)
+    wrote-is (ap lit (sym (part-is 20 (at-fill-back .fill-back .last .0) (at-fill-back .fill-back .result) _ (at-fill-back .fill-back .kept .0) (at-fill-back .fill-back .ensures .1)))) (at-put-bytes .put-bytes .ensures)
 
 pub put-number-spec : {M : Type 1} → statement M
 put-number-spec =

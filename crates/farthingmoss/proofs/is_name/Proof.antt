@@ -25,8 +25,8 @@ returns-2 c =
     let at-is-well-formed = at-if1 .before in
     rw ((sym (at-is-well-formed .is-well-formed .ensures)) ∙ not-false _ (at-if1 .if1 .left), sym (at-room .room .ensures), le-ltb _ _ (c .if2 .taken))
 
-cell-requires : tie.Need-cell-requires
-cell-requires c κs = search needs
+kind-requires : tie.Need-kind-requires
+kind-requires c κs = search needs
 
 returns-3 : tie.Need-returns-3
 unfolding nameOk
@@ -35,9 +35,9 @@ returns-3 c =
     let at-room = at-if2 .before in
     let at-if1 = at-room .before in
     let at-is-well-formed = at-if1 .before in
-    rw ((sym (at-is-well-formed .is-well-formed .ensures)) ∙ not-false _ (at-if1 .if1 .left), sym (at-room .room .ensures), lt-ltb _ _ (at-if2 .if2 .left), sym (c .cell .ensures .0))
+    rw ((sym (at-is-well-formed .is-well-formed .ensures)) ∙ not-false _ (at-if1 .if1 .left), sym (at-room .room .ensures), lt-ltb _ _ (at-if2 .if2 .left), sym (c .kind .ensures))
 
 pub is-name-spec : {M : Type 1} → statement M
 is-name-spec =
     tie.close
-    (tie.spec is-well-formed-requires returns room-requires returns-2 cell-requires returns-3)
+    (tie.spec is-well-formed-requires returns room-requires returns-2 kind-requires returns-3)

@@ -17,11 +17,11 @@ returns c = rw ((sym (c .before .room .ensures)), eq-eqb _ 0 (c .if1 .taken))
 is-well-formed-requires : tie.Need-is-well-formed-requires
 is-well-formed-requires c κs = search needs
 
-sub-cell : tie.Need-sub-cell
-sub-cell c = search needs
+sub-kind : tie.Need-sub-kind
+sub-kind c = search needs
 
-cell-requires : tie.Need-cell-requires
-cell-requires c κs = search needs
+kind-requires : tie.Need-kind-requires
+kind-requires c κs = search needs
 
 returns-2 : tie.Need-returns-2
 unfolding rooted
@@ -30,7 +30,7 @@ returns-2 c =
     let at-is-well-formed = at-if2 .before in
     let at-if1 = at-is-well-formed .before in
     let at-room = at-if1 .before in
-    rw ((sym (at-is-well-formed .is-well-formed .ensures)) ∙ at-if2 .if2 .taken, (sym (at-room .room .ensures)), ne-eqb _ 0 (at-if1 .if1 .left), sym (c .cell .ensures .0))
+    rw ((sym (at-is-well-formed .is-well-formed .ensures)) ∙ at-if2 .if2 .taken, (sym (at-room .room .ensures)), ne-eqb _ 0 (at-if1 .if1 .left), sym (c .kind .ensures))
 
 returns-3 : tie.Need-returns-3
 unfolding rooted
@@ -47,7 +47,7 @@ is-rooted-spec =
     room-requires
     returns
     is-well-formed-requires
-    sub-cell
-    cell-requires
+    sub-kind
+    kind-requires
     returns-2
     returns-3)

@@ -33,18 +33,18 @@ larger-requires c κs = search needs
 larger-requires-2 : tie.Need-larger-requires-2
 larger-requires-2 c κs = search needs
 
+kind-requires : tie.Need-kind-requires
+kind-requires c κs = search needs
+
 cell-requires-4 : tie.Need-cell-requires-4
 cell-requires-4 c κs = search needs
-
-cell-requires-5 : tie.Need-cell-requires-5
-cell-requires-5 c κs = search needs
 
 returns : tie.Need-returns
 unfolding heightOk
 returns c =
-    let at-cell5 = c .before in
-    let at-cell4 = at-cell5 .before in
-    let at-larger2 = at-cell4 .before in
+    let at-cell4 = c .before in
+    let at-kind = at-cell4 .before in
+    let at-larger2 = at-kind .before in
     let at-larger = at-larger2 .before in
     let at-height3 = at-larger .before in
     let at-cell3 = at-height3 .before in
@@ -52,7 +52,7 @@ returns c =
     let at-cell2 = at-height2 .before in
     let at-height = at-cell2 .before in
     let at-cell = at-height .before in
-    rw (sym (at-cell .cell .ensures .0), sym (at-cell2 .cell2 .ensures .0), sym (at-cell3 .cell3 .ensures .0), sym (at-cell4 .cell4 .ensures .0), sym (at-cell5 .cell5 .ensures .0), sym (at-height .height .ensures .0), sym (at-height2 .height2 .ensures .0), sym (at-height3 .height3 .ensures .0), sym (at-larger .larger .ensures), sym (at-larger2 .larger2 .ensures), le-leb _ _ (c .if1 .taken), add-zero)
+    rw (sym (at-cell .cell .ensures .0), sym (at-cell2 .cell2 .ensures .0), sym (at-cell3 .cell3 .ensures .0), sym (at-kind .kind .ensures), sym (at-cell4 .cell4 .ensures .0), sym (at-height .height .ensures .0), sym (at-height2 .height2 .ensures .0), sym (at-height3 .height3 .ensures .0), sym (at-larger .larger .ensures), sym (at-larger2 .larger2 .ensures), le-leb _ _ (c .if1 .taken), add-zero)
 
 add-result : tie.Need-add-result
 add-result c =
@@ -66,9 +66,9 @@ add-result c =
 returns-2 : tie.Need-returns-2
 unfolding heightOk
 returns-2 c =
-    let at-cell5 = c .before in
-    let at-cell4 = at-cell5 .before in
-    let at-larger2 = at-cell4 .before in
+    let at-cell4 = c .before in
+    let at-kind = at-cell4 .before in
+    let at-larger2 = at-kind .before in
     let at-larger = at-larger2 .before in
     let at-height3 = at-larger .before in
     let at-cell3 = at-height3 .before in
@@ -76,7 +76,7 @@ returns-2 c =
     let at-cell2 = at-height2 .before in
     let at-height = at-cell2 .before in
     let at-cell = at-height .before in
-    rw (sym (at-cell .cell .ensures .0), sym (at-cell2 .cell2 .ensures .0), sym (at-cell3 .cell3 .ensures .0), sym (at-cell4 .cell4 .ensures .0), sym (at-cell5 .cell5 .ensures .0), sym (at-height .height .ensures .0), sym (at-height2 .height2 .ensures .0), sym (at-height3 .height3 .ensures .0), sym (at-larger .larger .ensures), sym (at-larger2 .larger2 .ensures), lt-leb _ _ (c .if1 .left))
+    rw (sym (at-cell .cell .ensures .0), sym (at-cell2 .cell2 .ensures .0), sym (at-cell3 .cell3 .ensures .0), sym (at-kind .kind .ensures), sym (at-cell4 .cell4 .ensures .0), sym (at-height .height .ensures .0), sym (at-height2 .height2 .ensures .0), sym (at-height3 .height3 .ensures .0), sym (at-larger .larger .ensures), sym (at-larger2 .larger2 .ensures), lt-leb _ _ (c .if1 .left))
 
 pub is-height-ok-spec : {M : Type 1} → statement M
 is-height-ok-spec =
@@ -90,8 +90,8 @@ is-height-ok-spec =
     height-requires-3
     larger-requires
     larger-requires-2
+    kind-requires
     cell-requires-4
-    cell-requires-5
     returns
     add-result
     returns-2)

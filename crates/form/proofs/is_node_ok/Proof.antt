@@ -9,8 +9,8 @@ use borrow.Author.Needs.{needs}
 use Rattle.form.proofs.is_node_ok.Statement.{statement}
 use Rattle.form.proofs.is_node_ok.Tie as tie
 
-cell-requires : tie.Need-cell-requires
-cell-requires c κs = search needs
+kind-requires : tie.Need-kind-requires
+kind-requires c κs = search needs
 
 shape-of-requires : tie.Need-shape-of-requires
 shape-of-requires c κs = search needs
@@ -19,14 +19,14 @@ returns : tie.Need-returns
 unfolding nodeOk wholeShape
 returns c =
     let at-shape-of = c .before .before in
-    let at-cell = at-shape-of .before in
-    rw (eq-eqb _ 0 (sym (ap (λ (x : Shape). x .class) (at-shape-of .shape-of .ensures ∙ ap wholeShape (at-cell .cell .ensures .0))) ∙ c .if1 .taken))
+    let at-kind = at-shape-of .before in
+    rw (eq-eqb _ 0 (sym (ap (λ (x : Shape). x .class) (at-shape-of .shape-of .ensures ∙ ap wholeShape (at-kind .kind .ensures))) ∙ c .if1 .taken))
 
 are-refs-ok-requires : tie.Need-are-refs-ok-requires
 are-refs-ok-requires c κs =
     let at-shape-of = c .before .before in
-    let at-cell = at-shape-of .before in
-    (at-shape-of .shape-of .ensures ∙ ap wholeShape (at-cell .cell .ensures .0))
+    let at-kind = at-shape-of .before in
+    (at-shape-of .shape-of .ensures ∙ ap wholeShape (at-kind .kind .ensures))
 
 returns-2 : tie.Need-returns-2
 unfolding nodeOk wholeShape
@@ -34,14 +34,14 @@ returns-2 c =
     let at-are-refs-ok = c .before in
     let at-if1 = at-are-refs-ok .before in
     let at-shape-of = at-if1 .before .before in
-    let at-cell = at-shape-of .before in
-    rw ((ne-eqb _ 0 (λ e. at-if1 .if1 .left ((ap (λ (x : Shape). x .class) (at-shape-of .shape-of .ensures ∙ ap wholeShape (at-cell .cell .ensures .0))) ∙ e))), sym (at-are-refs-ok .are-refs-ok .ensures) ∙ not-true _ (c .if2 .taken))
+    let at-kind = at-shape-of .before in
+    rw ((ne-eqb _ 0 (λ e. at-if1 .if1 .left ((ap (λ (x : Shape). x .class) (at-shape-of .shape-of .ensures ∙ ap wholeShape (at-kind .kind .ensures))) ∙ e))), sym (at-are-refs-ok .are-refs-ok .ensures) ∙ not-true _ (c .if2 .taken))
 
 are-numbers-ok-requires : tie.Need-are-numbers-ok-requires
 are-numbers-ok-requires c κs =
     let at-shape-of = c .before .before .before .before in
-    let at-cell = at-shape-of .before in
-    (at-shape-of .shape-of .ensures ∙ ap wholeShape (at-cell .cell .ensures .0))
+    let at-kind = at-shape-of .before in
+    (at-shape-of .shape-of .ensures ∙ ap wholeShape (at-kind .kind .ensures))
 
 returns-3 : tie.Need-returns-3
 unfolding nodeOk wholeShape
@@ -51,14 +51,14 @@ returns-3 c =
     let at-are-refs-ok = at-if2 .before in
     let at-if1 = at-are-refs-ok .before in
     let at-shape-of = at-if1 .before .before in
-    let at-cell = at-shape-of .before in
-    rw ((ne-eqb _ 0 (λ e. at-if1 .if1 .left ((ap (λ (x : Shape). x .class) (at-shape-of .shape-of .ensures ∙ ap wholeShape (at-cell .cell .ensures .0))) ∙ e))), (sym (at-are-refs-ok .are-refs-ok .ensures) ∙ not-false _ (at-if2 .if2 .left)), sym (at-are-numbers-ok .are-numbers-ok .ensures) ∙ not-true _ (c .if3 .taken))
+    let at-kind = at-shape-of .before in
+    rw ((ne-eqb _ 0 (λ e. at-if1 .if1 .left ((ap (λ (x : Shape). x .class) (at-shape-of .shape-of .ensures ∙ ap wholeShape (at-kind .kind .ensures))) ∙ e))), (sym (at-are-refs-ok .are-refs-ok .ensures) ∙ not-false _ (at-if2 .if2 .left)), sym (at-are-numbers-ok .are-numbers-ok .ensures) ∙ not-true _ (c .if3 .taken))
 
 is-range-ok-requires : tie.Need-is-range-ok-requires
 is-range-ok-requires c κs =
     let at-shape-of = c .before .before .before .before .before .before in
-    let at-cell = at-shape-of .before in
-    (at-shape-of .shape-of .ensures ∙ ap wholeShape (at-cell .cell .ensures .0))
+    let at-kind = at-shape-of .before in
+    (at-shape-of .shape-of .ensures ∙ ap wholeShape (at-kind .kind .ensures))
 
 returns-4 : tie.Need-returns-4
 unfolding nodeOk wholeShape
@@ -70,8 +70,8 @@ returns-4 c =
     let at-are-refs-ok = at-if2 .before in
     let at-if1 = at-are-refs-ok .before in
     let at-shape-of = at-if1 .before .before in
-    let at-cell = at-shape-of .before in
-    rw ((ne-eqb _ 0 (λ e. at-if1 .if1 .left ((ap (λ (x : Shape). x .class) (at-shape-of .shape-of .ensures ∙ ap wholeShape (at-cell .cell .ensures .0))) ∙ e))), (sym (at-are-refs-ok .are-refs-ok .ensures) ∙ not-false _ (at-if2 .if2 .left)), (sym (at-are-numbers-ok .are-numbers-ok .ensures) ∙ not-false _ (at-if3 .if3 .left)), sym (at-is-range-ok .is-range-ok .ensures) ∙ not-true _ (c .if4 .taken))
+    let at-kind = at-shape-of .before in
+    rw ((ne-eqb _ 0 (λ e. at-if1 .if1 .left ((ap (λ (x : Shape). x .class) (at-shape-of .shape-of .ensures ∙ ap wholeShape (at-kind .kind .ensures))) ∙ e))), (sym (at-are-refs-ok .are-refs-ok .ensures) ∙ not-false _ (at-if2 .if2 .left)), (sym (at-are-numbers-ok .are-numbers-ok .ensures) ∙ not-false _ (at-if3 .if3 .left)), sym (at-is-range-ok .is-range-ok .ensures) ∙ not-true _ (c .if4 .taken))
 
 is-rest-ok-requires : tie.Need-is-rest-ok-requires
 is-rest-ok-requires c κs = search needs
@@ -88,8 +88,8 @@ returns-5 c =
     let at-are-refs-ok = at-if2 .before in
     let at-if1 = at-are-refs-ok .before in
     let at-shape-of = at-if1 .before .before in
-    let at-cell = at-shape-of .before in
-    rw ((ne-eqb _ 0 (λ e. at-if1 .if1 .left ((ap (λ (x : Shape). x .class) (at-shape-of .shape-of .ensures ∙ ap wholeShape (at-cell .cell .ensures .0))) ∙ e))), (sym (at-are-refs-ok .are-refs-ok .ensures) ∙ not-false _ (at-if2 .if2 .left)), (sym (at-are-numbers-ok .are-numbers-ok .ensures) ∙ not-false _ (at-if3 .if3 .left)), (sym (at-is-range-ok .is-range-ok .ensures) ∙ not-false _ (at-if4 .if4 .left)), sym (at-is-rest-ok .is-rest-ok .ensures) ∙ not-true _ (c .if5 .taken))
+    let at-kind = at-shape-of .before in
+    rw ((ne-eqb _ 0 (λ e. at-if1 .if1 .left ((ap (λ (x : Shape). x .class) (at-shape-of .shape-of .ensures ∙ ap wholeShape (at-kind .kind .ensures))) ∙ e))), (sym (at-are-refs-ok .are-refs-ok .ensures) ∙ not-false _ (at-if2 .if2 .left)), (sym (at-are-numbers-ok .are-numbers-ok .ensures) ∙ not-false _ (at-if3 .if3 .left)), (sym (at-is-range-ok .is-range-ok .ensures) ∙ not-false _ (at-if4 .if4 .left)), sym (at-is-rest-ok .is-rest-ok .ensures) ∙ not-true _ (c .if5 .taken))
 
 is-height-ok-requires : tie.Need-is-height-ok-requires
 is-height-ok-requires c κs = search needs
@@ -107,14 +107,14 @@ returns-6 c =
     let at-are-refs-ok = at-if2 .before in
     let at-if1 = at-are-refs-ok .before in
     let at-shape-of = at-if1 .before .before in
-    let at-cell = at-shape-of .before in
-    rw ((ne-eqb _ 0 (λ e. at-if1 .if1 .left ((ap (λ (x : Shape). x .class) (at-shape-of .shape-of .ensures ∙ ap wholeShape (at-cell .cell .ensures .0))) ∙ e))), (sym (at-are-refs-ok .are-refs-ok .ensures) ∙ not-false _ (at-if2 .if2 .left)), (sym (at-are-numbers-ok .are-numbers-ok .ensures) ∙ not-false _ (at-if3 .if3 .left)), (sym (at-is-range-ok .is-range-ok .ensures) ∙ not-false _ (at-if4 .if4 .left)), (sym (at-is-rest-ok .is-rest-ok .ensures) ∙ not-false _ (at-if5 .if5 .left))) (c .is-height-ok .ensures)
+    let at-kind = at-shape-of .before in
+    rw ((ne-eqb _ 0 (λ e. at-if1 .if1 .left ((ap (λ (x : Shape). x .class) (at-shape-of .shape-of .ensures ∙ ap wholeShape (at-kind .kind .ensures))) ∙ e))), (sym (at-are-refs-ok .are-refs-ok .ensures) ∙ not-false _ (at-if2 .if2 .left)), (sym (at-are-numbers-ok .are-numbers-ok .ensures) ∙ not-false _ (at-if3 .if3 .left)), (sym (at-is-range-ok .is-range-ok .ensures) ∙ not-false _ (at-if4 .if4 .left)), (sym (at-is-rest-ok .is-rest-ok .ensures) ∙ not-false _ (at-if5 .if5 .left))) (c .is-height-ok .ensures)
 
 pub is-node-ok-spec : {M : Type 1} → statement M
 is-node-ok-spec =
     tie.close
     (tie.spec
-    cell-requires
+    kind-requires
     shape-of-requires
     returns
     are-refs-ok-requires

@@ -27,8 +27,8 @@ returns-2 c =
     let entry = at-if1 .before .before in
     rw (ne-eqb _ _ (at-if1 .if1 .left), lt-leb (entry .args .r) (entry .args .n) (omega (arith, at-if1 .if1 .left, c .if2 .taken)))
 
-cell-requires : tie.Need-cell-requires
-cell-requires c κs = search needs
+kind-requires : tie.Need-kind-requires
+kind-requires c κs = search needs
 
 shape-of-requires : tie.Need-shape-of-requires
 shape-of-requires c κs = search needs
@@ -40,11 +40,11 @@ returns-3 : tie.Need-returns-3
 unfolding refOk wholeShape
 returns-3 c =
     let at-shape-of = c .before in
-    let at-cell = at-shape-of .before in
-    let at-if2 = at-cell .before in
+    let at-kind = at-shape-of .before in
+    let at-if2 = at-kind .before in
     let at-if1 = at-if2 .before in
     let entry = at-if1 .before .before in
-    rw (ne-eqb _ _ (at-if1 .if1 .left), le-leb (entry .args .r) (entry .args .n) (omega (arith, at-if2 .if2 .left))) (c .is-fit2 .ensures ∙ ap (fits _) (ap (λ (x : Shape). x .class) (at-shape-of .shape-of .ensures) ∙ ap (λ k. shapeOf k 0) (at-cell .cell .ensures .0)))
+    rw (ne-eqb _ _ (at-if1 .if1 .left), le-leb (entry .args .r) (entry .args .n) (omega (arith, at-if2 .if2 .left))) (c .is-fit2 .ensures ∙ ap (fits _) (ap (λ (x : Shape). x .class) (at-shape-of .shape-of .ensures) ∙ ap (λ k. shapeOf k 0) (at-kind .kind .ensures)))
 
 pub is-ref-ok-spec : {M : Type 1} → statement M
 is-ref-ok-spec =
@@ -54,7 +54,7 @@ is-ref-ok-spec =
     returns
     sub-m
     returns-2
-    cell-requires
+    kind-requires
     shape-of-requires
     is-fit-requires-2
     returns-3)

@@ -3,13 +3,14 @@
 use mathlib.Core.Path.{sym, _∙_}
 use borrow.Author.Tests.{le-leb, lt-leb}
 use Rattle.gates.specs.Gates.{gate}
+use Rattle.scan.specs.Limits.{deepestReading}
 use borrow.Author.Needs.{needs}
 use Rattle.gates.proofs.call_gate.Statement.{statement}
 use Rattle.gates.proofs.call_gate.Tie as tie
 
 returns : tie.Need-returns
 unfolding gate
-returns c = rw (lt-leb _ 200 (c .if1 .taken))
+returns c = rw (lt-leb _ deepestReading (c .if1 .taken))
 
 are-known-requires : tie.Need-are-known-requires
 are-known-requires c κs = search needs
@@ -23,11 +24,11 @@ returns-2 c =
     let at-if2 = c .before in
     let at-are-known = at-if2 .before in
     let at-if1 = at-are-known .before in
-    rw (le-leb _ 200 (at-if1 .if1 .left), (sym (at-are-known .are-known .ensures)) ∙ at-if2 .if2 .taken) (c .symbol-gate .ensures)
+    rw (le-leb _ deepestReading (at-if1 .if1 .left), (sym (at-are-known .are-known .ensures)) ∙ at-if2 .if2 .taken) (c .symbol-gate .ensures)
 
 returns-3 : tie.Need-returns-3
 unfolding gate
-returns-3 c = rw (le-leb _ 200 (c .before .before .if1 .left), (sym (c .before .are-known .ensures)) ∙ c .if2 .left)
+returns-3 c = rw (le-leb _ deepestReading (c .before .before .if1 .left), (sym (c .before .are-known .ensures)) ∙ c .if2 .left)
 
 pub call-gate-spec : {M : Type 1} → statement M
 call-gate-spec =

@@ -23,8 +23,11 @@ slice-aggregate-write-all c = search needs
 write-all-requires : tie.Need-write-all-requires Inv-loop μ-loop
 write-all-requires c κs = search needs
 
-cell-requires : tie.Need-cell-requires Inv-loop μ-loop
-cell-requires c κs = search needs
+kind-requires : tie.Need-kind-requires Inv-loop μ-loop
+kind-requires c κs = search needs
+
+cast-print-decimal : tie.Need-cast-print-decimal Inv-loop μ-loop
+cast-print-decimal c = search needs
 
 print-decimal-requires-2 : tie.Need-print-decimal-requires-2 Inv-loop μ-loop
 print-decimal-requires-2 c κs = search needs
@@ -74,7 +77,8 @@ try-node-spec =
     print-decimal-requires
     slice-aggregate-write-all
     write-all-requires
-    cell-requires
+    kind-requires
+    cast-print-decimal
     print-decimal-requires-2
     loop-holds
     mul-try-cell

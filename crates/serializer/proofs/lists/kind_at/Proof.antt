@@ -10,14 +10,14 @@ use Rattle.serializer.proofs.lists.kind_at.Tie as tie
 returns : tie.Need-returns
 returns c = λ s. sym (kind-none _ s (c .if1 .taken))
 
-sub-cell : tie.Need-sub-cell
-sub-cell c = search needs
+sub-kind : tie.Need-sub-kind
+sub-kind c = search needs
 
-cell-requires : tie.Need-cell-requires
-cell-requires c κs = search needs
+kind-requires : tie.Need-kind-requires
+kind-requires c κs = search needs
 
 returns-2 : tie.Need-returns-2
-returns-2 c = λ s. sym (kind-is _ s (omega arith) (c .cell .ensures .0))
+returns-2 c = λ s. sym (kind-is _ s (omega arith) (c .kind .ensures))
 
 pub kind-at-spec : {M : Type 1} → statement M
-kind-at-spec = tie.close (tie.spec returns sub-cell cell-requires returns-2)
+kind-at-spec = tie.close (tie.spec returns sub-kind kind-requires returns-2)

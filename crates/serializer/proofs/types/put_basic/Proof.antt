@@ -20,6 +20,9 @@ below c = ⊎-elim (λ w. omega (arith, w .taken)) (λ w. w .2 .taken) (c .if2 .
 basic-is : (c : tie.Joined2) → writeBasic (c .before .before .before .args .flags) (c .before .before .before .args .k) ≡ lit (word (75 + (c .before .before .before .args .k - 38)))
 basic-is c = ⊎-elim (λ w. basic-below _ _ (c .before .if1 .left) (w .taken)) (λ w. basic-above _ _ (w .1 .left) (w .2 .taken)) (c .if2 .came)
 
+cast-put-word : tie.Need-cast-put-word
+cast-put-word c = search needs
+
 add-put-word : tie.Need-add-put-word
 add-put-word c = search needs
 
@@ -37,11 +40,17 @@ returns c =
     let at-if2 = at-if3 .before in
     wrote-is (renamed-is _ _ (eq-eqb _ _ (at-if4 .if4 .taken)) (at-if2 .if2 .left) (at-if3 .if3 .taken)) (at-put-word .put-word .ensures)
 
+cast-put-word-2 : tie.Need-cast-put-word-2
+cast-put-word-2 c = search needs
+
 add-put-word-2 : tie.Need-add-put-word-2
 add-put-word-2 c = search needs
 
 put-word-requires-2 : tie.Need-put-word-requires-2
 put-word-requires-2 c κs = search needs
+
+cast-put-word-3 : tie.Need-cast-put-word-3
+cast-put-word-3 c = search needs
 
 add-put-word-3 : tie.Need-add-put-word-3
 add-put-word-3 c = record { fits = omega (arith, below (c .before)) }
@@ -76,12 +85,15 @@ pub put-basic-spec : {M : Type 1} → statement M
 put-basic-spec =
     tie.close
     (tie.spec
+    cast-put-word
     add-put-word
     put-word-requires
     same-length
     returns
+    cast-put-word-2
     add-put-word-2
     put-word-requires-2
+    cast-put-word-3
     add-put-word-3
     put-word-requires-3
     same-length-2

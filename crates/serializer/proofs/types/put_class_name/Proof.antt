@@ -12,6 +12,9 @@ returns : tie.Need-returns
 unfolding className
 returns c = rw (eq-eqb _ _ (c .if1 .taken)) (wrote-none _ _)
 
+cast-put-word : tie.Need-cast-put-word
+cast-put-word c = search needs
+
 add-put-word : tie.Need-add-put-word
 add-put-word c = search needs
 
@@ -38,4 +41,12 @@ returns-4 c = wrote-is (no-class-above _ _ (ne-eqb _ _ (c .before .before .if1 .
 pub put-class-name-spec : {M : Type 1} → statement M
 put-class-name-spec =
     tie.close
-    (tie.spec returns add-put-word put-word-requires same-length returns-2 returns-3 returns-4)
+    (tie.spec
+    returns
+    cast-put-word
+    add-put-word
+    put-word-requires
+    same-length
+    returns-2
+    returns-3
+    returns-4)

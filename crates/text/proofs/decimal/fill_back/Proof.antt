@@ -13,7 +13,7 @@ use Rattle.text.proofs.decimal.fill_back.Statement.{statement}
 use Rattle.text.proofs.decimal.fill_back.Tie as tie
 
 abbrev Inv-loop : tie.InvT-loop
-Inv-loop buf₀ n i₀ v₀ buf i v = (i ≤ length buf₀) × (v < 2 ^ 32) × (length buf ≡ length buf₀) × (digits (length buf₀) n [] ≡ digits i v (drop i buf))
+Inv-loop buf₀ n i₀ v₀ buf i v = (i ≤ length buf₀) × (v < 2 ^ 64) × (length buf ≡ length buf₀) × (digits (length buf₀) n [] ≡ digits i v (drop i buf))
 
 abbrev μ-loop : tie.MeasureT-loop
 μ-loop buf₀ n i₀ v₀ buf i v = i

@@ -2,6 +2,7 @@
 -- Assumes nothing.
 use mathlib.Core.Path.{ap, _∙_}
 use Rattle.text.specs.Emit.{cut}
+use Rattle.text.specs.Decimal.{unsigned}
 use Rattle.text.proofs.Digits.{part-is, part-length}
 use borrow.Author.Needs.{needs}
 use Rattle.text.proofs.decimal.fill_digits.Statement.{statement}
@@ -32,10 +33,11 @@ same-length : tie.Need-same-length
 same-length c = search needs
 
 returns : tie.Need-returns
+unfolding unsigned
 returns c =
     let at-fill = c .before .before in
     let at-fill-back = at-fill .before .before .before .before .before in
-    (at-fill .fill .ensures ∙ ap (cut _) (part-is (at-fill-back .fill-back .last .0) (at-fill-back .fill-back .result) _ (at-fill-back .fill-back .kept .0) (at-fill-back .fill-back .ensures .1)), part-length (at-fill-back .fill-back .last .0) (at-fill-back .fill-back .result) _ (at-fill-back .fill-back .kept .0) (at-fill-back .fill-back .ensures .1))
+    (at-fill .fill .ensures ∙ ap (cut _) (part-is 10 (at-fill-back .fill-back .last .0) (at-fill-back .fill-back .result) _ (at-fill-back .fill-back .kept .0) (at-fill-back .fill-back .ensures .1)), (part-length 10 (at-fill-back .fill-back .last .0) (at-fill-back .fill-back .result) _ (at-fill-back .fill-back .kept .0) (at-fill-back .fill-back .ensures .1)))
 
 pub fill-digits-spec : {M : Type 1} → statement M
 fill-digits-spec =

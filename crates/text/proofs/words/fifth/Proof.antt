@@ -26,7 +26,7 @@ returns-4 c = rw (c .match .keys4)
 
 returns-5 : tie.Need-returns-5
 unfolding piece word
-returns-5 c = missing 4 (70 ∷ 62 ∷ 59 ∷ 55 ∷ []) refl (c .before .args .w) (c .before .pre) (c .match .rest)
+returns-5 c = missing 4 (70 ∷ 62 ∷ 59 ∷ 55 ∷ []) refl (c .before .args .w) (c .match .rest)
 
 pub fifth-spec : {M : Type 1} → statement M
 fifth-spec = tie.close (tie.spec returns returns-2 returns-3 returns-4 returns-5)

@@ -86,7 +86,7 @@ returns-19 c = rw (c .match .keys19)
 
 returns-20 : tie.Need-returns-20
 unfolding piece word
-returns-20 c = missing 3 (141 ∷ 74 ∷ 73 ∷ 71 ∷ 70 ∷ 66 ∷ 65 ∷ 62 ∷ 60 ∷ 59 ∷ 58 ∷ 57 ∷ 56 ∷ 55 ∷ 54 ∷ 53 ∷ 52 ∷ 51 ∷ 50 ∷ []) refl (c .before .args .w) (c .before .pre) (c .match .rest)
+returns-20 c = missing 3 (141 ∷ 74 ∷ 73 ∷ 71 ∷ 70 ∷ 66 ∷ 65 ∷ 62 ∷ 60 ∷ 59 ∷ 58 ∷ 57 ∷ 56 ∷ 55 ∷ 54 ∷ 53 ∷ 52 ∷ 51 ∷ 50 ∷ []) refl (c .before .args .w) (c .match .rest)
 
 pub fourth-spec : {M : Type 1} → statement M
 fourth-spec =

@@ -5,13 +5,10 @@ use mathlib.Core.List.{_++_}
 use Rattle.text.specs.Emit.{lit}
 use Rattle.text.specs.Letters.{spell, piece}
 use Rattle.text.proofs.Seq.{wrote-is}
-use Rattle.text.proofs.Letters.{word-one, word-two, word-all, wrote-both, wrote-no-word}
+use Rattle.text.proofs.Letters.{word-one, word-two, word-all, wrote-both}
 use borrow.Author.Needs.{needs}
 use Rattle.text.proofs.words.put_word.Statement.{statement}
 use Rattle.text.proofs.words.put_word.Tie as tie
-
-returns : tie.Need-returns
-returns c = wrote-no-word _ _ _ (c .if1 .taken)
 
 first-requires : tie.Need-first-requires
 first-requires c κs = search needs
@@ -25,14 +22,13 @@ second-requires c κs = search needs
 same-length : tie.Need-same-length
 same-length c = search needs
 
-returns-2 : tie.Need-returns-2
-returns-2 c =
+returns : tie.Need-returns
+returns c =
     let at-second = c .before in
     let at-put-letters = at-second .before .before .before in
     let at-first = at-put-letters .before in
-    let at-if1 = at-first .before .before in
-    let entry = at-if1 .before .before in
-    wrote-is (ap lit (word-one (entry .args .w) (at-if1 .if1 .left) (sym (at-second .second .ensures) ∙ c .if2 .taken))) (rw (at-first .first .ensures) at (at-put-letters .put-letters .ensures))
+    let entry = at-first .before .before .before in
+    wrote-is (ap lit (word-one (entry .args .w) (sym (at-second .second .ensures) ∙ c .if1 .taken))) (rw (at-first .first .ensures) at (at-put-letters .put-letters .ensures))
 
 put-letters-requires-2 : tie.Need-put-letters-requires-2
 put-letters-requires-2 c κs = search needs
@@ -43,16 +39,15 @@ third-requires c κs = search needs
 same-length-2 : tie.Need-same-length-2
 same-length-2 c = search needs
 
-returns-3 : tie.Need-returns-3
-returns-3 c =
+returns-2 : tie.Need-returns-2
+returns-2 c =
     let at-third = c .before in
     let at-put-letters2 = at-third .before .before .before in
     let at-second = at-put-letters2 .before .before .before in
     let at-put-letters = at-second .before .before .before in
     let at-first = at-put-letters .before in
-    let at-if1 = at-first .before .before in
-    let entry = at-if1 .before .before in
-    wrote-is (ap lit (word-two (entry .args .w) (at-if1 .if1 .left) (sym (at-third .third .ensures) ∙ c .if3 .taken))) (wrote-both (spell 8 (piece 0 (entry .args .w))) (spell 8 (piece 1 (entry .args .w))) (rw (at-first .first .ensures) at (at-put-letters .put-letters .ensures)) (rw (at-second .second .ensures) at (at-put-letters2 .put-letters2 .ensures)))
+    let entry = at-first .before .before .before in
+    wrote-is (ap lit (word-two (entry .args .w) (sym (at-third .third .ensures) ∙ c .if2 .taken))) (wrote-both (spell 8 (piece 0 (entry .args .w))) (spell 8 (piece 1 (entry .args .w))) (rw (at-first .first .ensures) at (at-put-letters .put-letters .ensures)) (rw (at-second .second .ensures) at (at-put-letters2 .put-letters2 .ensures)))
 
 put-letters-requires-3 : tie.Need-put-letters-requires-3
 put-letters-requires-3 c κs = search needs
@@ -72,8 +67,8 @@ put-letters-requires-5 c κs = search needs
 same-length-3 : tie.Need-same-length-3
 same-length-3 c = search needs
 
-returns-4 : tie.Need-returns-4
-returns-4 c =
+returns-3 : tie.Need-returns-3
+returns-3 c =
     let at-put-letters5 = c .before .before in
     let at-fifth = at-put-letters5 .before in
     let at-put-letters4 = at-fifth .before .before .before .before in
@@ -84,28 +79,26 @@ returns-4 c =
     let at-second = at-put-letters2 .before .before .before in
     let at-put-letters = at-second .before .before .before in
     let at-first = at-put-letters .before in
-    let at-if1 = at-first .before .before in
-    let entry = at-if1 .before .before in
-    wrote-is (ap lit (word-all (entry .args .w) (at-if1 .if1 .left))) (wrote-both (spell 8 (piece 0 (entry .args .w))) ((spell 8 (piece 1 (entry .args .w))) ++ ((spell 8 (piece 2 (entry .args .w))) ++ ((spell 8 (piece 3 (entry .args .w))) ++ (spell 8 (piece 4 (entry .args .w)))))) (rw (at-first .first .ensures) at (at-put-letters .put-letters .ensures)) (wrote-both (spell 8 (piece 1 (entry .args .w))) ((spell 8 (piece 2 (entry .args .w))) ++ ((spell 8 (piece 3 (entry .args .w))) ++ (spell 8 (piece 4 (entry .args .w))))) (rw (at-second .second .ensures) at (at-put-letters2 .put-letters2 .ensures)) (wrote-both (spell 8 (piece 2 (entry .args .w))) ((spell 8 (piece 3 (entry .args .w))) ++ (spell 8 (piece 4 (entry .args .w)))) (rw (at-third .third .ensures) at (at-put-letters3 .put-letters3 .ensures)) (wrote-both (spell 8 (piece 3 (entry .args .w))) (spell 8 (piece 4 (entry .args .w))) (rw (at-fourth .fourth .ensures) at (at-put-letters4 .put-letters4 .ensures)) (rw (at-fifth .fifth .ensures) at (at-put-letters5 .put-letters5 .ensures))))))
+    let entry = at-first .before .before .before in
+    wrote-is (ap lit (word-all (entry .args .w))) (wrote-both (spell 8 (piece 0 (entry .args .w))) ((spell 8 (piece 1 (entry .args .w))) ++ ((spell 8 (piece 2 (entry .args .w))) ++ ((spell 8 (piece 3 (entry .args .w))) ++ (spell 8 (piece 4 (entry .args .w)))))) (rw (at-first .first .ensures) at (at-put-letters .put-letters .ensures)) (wrote-both (spell 8 (piece 1 (entry .args .w))) ((spell 8 (piece 2 (entry .args .w))) ++ ((spell 8 (piece 3 (entry .args .w))) ++ (spell 8 (piece 4 (entry .args .w))))) (rw (at-second .second .ensures) at (at-put-letters2 .put-letters2 .ensures)) (wrote-both (spell 8 (piece 2 (entry .args .w))) ((spell 8 (piece 3 (entry .args .w))) ++ (spell 8 (piece 4 (entry .args .w)))) (rw (at-third .third .ensures) at (at-put-letters3 .put-letters3 .ensures)) (wrote-both (spell 8 (piece 3 (entry .args .w))) (spell 8 (piece 4 (entry .args .w))) (rw (at-fourth .fourth .ensures) at (at-put-letters4 .put-letters4 .ensures)) (rw (at-fifth .fifth .ensures) at (at-put-letters5 .put-letters5 .ensures))))))
 
 pub put-word-spec : {M : Type 1} → statement M
 put-word-spec =
     tie.close
     (tie.spec
-    returns
     first-requires
     put-letters-requires
     second-requires
     same-length
-    returns-2
+    returns
     put-letters-requires-2
     third-requires
     same-length-2
-    returns-3
+    returns-2
     put-letters-requires-3
     fourth-requires
     put-letters-requires-4
     fifth-requires
     put-letters-requires-5
     same-length-3
-    returns-4)
+    returns-3)

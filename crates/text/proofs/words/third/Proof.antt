@@ -126,7 +126,7 @@ returns-29 c = rw (c .match .keys29)
 
 returns-30 : tie.Need-returns-30
 unfolding piece word
-returns-30 c = missing 2 (141 ∷ 140 ∷ 136 ∷ 125 ∷ 116 ∷ 100 ∷ 74 ∷ 73 ∷ 72 ∷ 71 ∷ 70 ∷ 69 ∷ 66 ∷ 65 ∷ 64 ∷ 62 ∷ 60 ∷ 59 ∷ 58 ∷ 57 ∷ 56 ∷ 55 ∷ 54 ∷ 53 ∷ 52 ∷ 51 ∷ 50 ∷ 49 ∷ 47 ∷ []) refl (c .before .args .w) (c .before .pre) (c .match .rest)
+returns-30 c = missing 2 (141 ∷ 140 ∷ 136 ∷ 125 ∷ 116 ∷ 100 ∷ 74 ∷ 73 ∷ 72 ∷ 71 ∷ 70 ∷ 69 ∷ 66 ∷ 65 ∷ 64 ∷ 62 ∷ 60 ∷ 59 ∷ 58 ∷ 57 ∷ 56 ∷ 55 ∷ 54 ∷ 53 ∷ 52 ∷ 51 ∷ 50 ∷ 49 ∷ 47 ∷ []) refl (c .before .args .w) (c .match .rest)
 
 pub third-spec : {M : Type 1} → statement M
 third-spec =

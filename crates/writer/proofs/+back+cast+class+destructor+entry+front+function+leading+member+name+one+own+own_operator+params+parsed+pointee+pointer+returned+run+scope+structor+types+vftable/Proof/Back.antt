@@ -12,13 +12,14 @@ use Rattle.serializer.specs.Serializer.{writePost}
 use Rattle.serializer.proofs.Nodes.{node-at}
 use Rattle.writer.proofs.Falls.{under}
 use Rattle.writer.proofs.ByType.{post-pointer, post-rest, post-none}
+use Rattle.node.specs.Kind.{kindNumber, Array, CXXVBTable, CXXVFTable, VCallThunk, Var}
 use borrow.Author.Needs.{needs}
 use Rattle.writer.proofs.+back+cast+class+destructor+entry+front+function+leading+member+name+one+own+own_operator+params+parsed+pointee+pointer+returned+run+scope+structor+types+vftable.Proof.Common.{back-at, back-below, function-below, returned-below, scope-below, vftable-below}
 use Rattle.writer.proofs.back.Reads as back
-use Rattle.node.proofs.cell.Reads as cell-reads
 use Rattle.writer.proofs.function.Reads as function
 use Rattle.meaning.proofs.kid.Reads as kid-reads
 use Rattle.serializer.proofs.lists.kind_at.Reads as kind-at-reads
+use Rattle.node.proofs.kind.Reads as kind-reads
 use Rattle.serializer.proofs.lists.number.Reads as number-reads
 use Rattle.serializer.proofs.types.put_closing.Reads as put-closing-reads
 use Rattle.text.proofs.decimal.put_decimal.Reads as put-decimal-reads
@@ -31,7 +32,7 @@ use Rattle.writer.proofs.vftable.Reads as vftable
 use Rattle.writer.proofs.+back+cast+class+destructor+entry+front+function+leading+member+name+one+own+own_operator+params+parsed+pointee+pointer+returned+run+scope+structor+types+vftable.Lts-back as lts
 
 abbrev pub claims : ℕ → lts.Claims
-claims t = (cell-reads.Asked, cell-reads.Learnt, kid-reads.Asked, kid-reads.Learnt, function-below t, function.Post, returned-below t, returned.Post, scope-below t, scope.Post, put-word-reads.Asked, put-word-reads.Learnt, vftable-below t, vftable.Post, number-reads.Asked, number-reads.Learnt, put-flat-reads.Asked, put-flat-reads.Learnt, put-reads.Asked, put-reads.Learnt, put-decimal-reads.Asked, put-decimal-reads.Learnt, back-below t, back.Post, kind-at-reads.Asked, kind-at-reads.Learnt, put-closing-reads.Asked, put-closing-reads.Learnt)
+claims t = (kind-reads.Asked, kind-reads.Learnt, kid-reads.Asked, kid-reads.Learnt, function-below t, function.Post, returned-below t, returned.Post, scope-below t, scope.Post, put-word-reads.Asked, put-word-reads.Learnt, vftable-below t, vftable.Post, number-reads.Asked, number-reads.Learnt, put-flat-reads.Asked, put-flat-reads.Learnt, put-reads.Asked, put-reads.Learnt, put-decimal-reads.Asked, put-decimal-reads.Learnt, back-below t, back.Post, kind-at-reads.Asked, kind-at-reads.Learnt, put-closing-reads.Asked, put-closing-reads.Learnt)
 
 module _ (t : ℕ) where
   pub returns : lts.Need-returns (claims t) (back-at t) back.Post
@@ -43,8 +44,8 @@ module _ (t : ℕ) where
   pub sub-m : lts.Need-sub-m (claims t) (back-at t) back.Post
   sub-m c = search needs
 
-  pub cell-requires : lts.Need-cell-requires (claims t) (back-at t) back.Post
-  cell-requires c κs = search needs
+  pub kind-requires : lts.Need-kind-requires (claims t) (back-at t) back.Post
+  kind-requires c κs = search needs
 
   pub kid-requires : lts.Need-kid-requires (claims t) (back-at t) back.Post
   kid-requires c κs = search needs
@@ -52,23 +53,23 @@ module _ (t : ℕ) where
   pub function-requires : lts.Need-function-requires (claims t) (back-at t) back.Post
   function-requires c κs =
       let at-match = c .before in
-      let at-cell = at-match .before .before in
-      let entry = at-cell .before .before .before .before .before .before in
-      (omega (arith, entry .pre), (omega arith, inl (sym (at-cell .cell .ensures .0) ∙ at-match .match .keys1)))
+      let at-kind = at-match .before .before in
+      let entry = at-kind .before .before .before .before .before .before in
+      (omega (arith, entry .pre), (omega arith, inl (sym (at-kind .kind .ensures) ∙ at-match .match .keys1)))
 
   pub returned-requires : lts.Need-returned-requires (claims t) (back-at t) back.Post
   returned-requires c κs =
       let at-match = c .before in
-      let at-cell = at-match .before .before in
-      let entry = at-cell .before .before .before .before .before .before in
-      (omega (arith, entry .pre), (omega arith, sym (at-cell .cell .ensures .0) ∙ at-match .match .keys2))
+      let at-kind = at-match .before .before in
+      let entry = at-kind .before .before .before .before .before .before in
+      (omega (arith, entry .pre), (omega arith, sym (at-kind .kind .ensures) ∙ at-match .match .keys2))
 
   pub function-requires-2 : lts.Need-function-requires-2 (claims t) (back-at t) back.Post
   function-requires-2 c κs =
       let at-match = c .before in
-      let at-cell = at-match .before .before in
-      let entry = at-cell .before .before .before .before .before .before in
-      (omega (arith, entry .pre), (omega arith, inr (sym (at-cell .cell .ensures .0) ∙ at-match .match .keys3)))
+      let at-kind = at-match .before .before in
+      let entry = at-kind .before .before .before .before .before .before in
+      (omega (arith, entry .pre), (omega arith, inr (sym (at-kind .kind .ensures) ∙ at-match .match .keys3)))
 
   pub scope-requires : lts.Need-scope-requires (claims t) (back-at t) back.Post
   scope-requires c κs =
@@ -160,8 +161,8 @@ module _ (t : ℕ) where
       let at-scope = at-put-word .before .before .before .before in
       let at-match = at-scope .before .before in
       let at-kid = at-match .before in
-      let at-cell = at-kid .before in
-      wrote-is (ap (writePost _) (node-at _ _ (omega arith) 21 (at-cell .cell .ensures .0) (at-match .match .keys4) (at-kid .kid .ensures .0) refl refl refl refl refl refl)) (wrote-seq (at-scope .scope .ensures) (at-put-word .put-word .ensures))
+      let at-kind = at-kid .before in
+      wrote-is (ap (writePost _) (node-at _ _ (omega arith) (kindNumber CXXVBTable) (at-kind .kind .ensures) (at-match .match .keys4) (at-kid .kid .ensures .0) refl refl refl refl refl refl)) (wrote-seq (at-scope .scope .ensures) (at-put-word .put-word .ensures))
 
   pub same-length-5 : lts.Need-same-length-5 (claims t) (back-at t) back.Post
   same-length-5 c = search needs
@@ -172,8 +173,8 @@ module _ (t : ℕ) where
       let at-vftable = c .before .before in
       let at-match = at-vftable .before .before in
       let at-kid = at-match .before in
-      let at-cell = at-kid .before in
-      wrote-is (ap (writePost _) (node-at _ _ (omega arith) 22 (at-cell .cell .ensures .0) (at-match .match .keys5) (at-kid .kid .ensures .0) refl refl refl refl refl refl)) (at-vftable .vftable .ensures)
+      let at-kind = at-kid .before in
+      wrote-is (ap (writePost _) (node-at _ _ (omega arith) (kindNumber CXXVFTable) (at-kind .kind .ensures) (at-match .match .keys5) (at-kid .kid .ensures .0) refl refl refl refl refl refl)) (at-vftable .vftable .ensures)
 
   pub same-length-6 : lts.Need-same-length-6 (claims t) (back-at t) back.Post
   same-length-6 c = search needs
@@ -184,8 +185,8 @@ module _ (t : ℕ) where
       let at-put-flat = c .before .before in
       let at-number = at-put-flat .before in
       let at-match = at-number .before .before in
-      let at-cell = at-match .before .before in
-      wrote-is (ap (writePost _) (node-at _ _ (omega arith) 23 (at-cell .cell .ensures .0) (at-match .match .keys6) refl refl refl (at-number .number .ensures) refl refl refl)) (at-put-flat .put-flat .ensures)
+      let at-kind = at-match .before .before in
+      wrote-is (ap (writePost _) (node-at _ _ (omega arith) (kindNumber VCallThunk) (at-kind .kind .ensures) (at-match .match .keys6) refl refl refl (at-number .number .ensures) refl refl refl)) (at-put-flat .put-flat .ensures)
 
   pub same-length-7 : lts.Need-same-length-7 (claims t) (back-at t) back.Post
   same-length-7 c = search needs
@@ -200,8 +201,8 @@ module _ (t : ℕ) where
       let at-put = at-number2 .before .before .before .before in
       let at-match = at-put .before .before in
       let at-kid = at-match .before in
-      let at-cell = at-kid .before in
-      wrote-is (ap (writePost _) (node-at _ _ (omega arith) 31 (at-cell .cell .ensures .0) (at-match .match .keys7) (at-kid .kid .ensures .0) refl refl refl (at-number2 .number2 .ensures) refl refl)) (wrote-seq (at-put .put .ensures) (wrote-seq (at-put-decimal .put-decimal .ensures) (wrote-seq (at-put2 .put2 .ensures) (at-back .back .ensures))))
+      let at-kind = at-kid .before in
+      wrote-is (ap (writePost _) (node-at _ _ (omega arith) (kindNumber Array) (at-kind .kind .ensures) (at-match .match .keys7) (at-kid .kid .ensures .0) refl refl refl (at-number2 .number2 .ensures) refl refl)) (wrote-seq (at-put .put .ensures) (wrote-seq (at-put-decimal .put-decimal .ensures) (wrote-seq (at-put2 .put2 .ensures) (at-back .back .ensures))))
 
   pub same-length-8 : lts.Need-same-length-8 (claims t) (back-at t) back.Post
   same-length-8 c = search needs
@@ -212,8 +213,8 @@ module _ (t : ℕ) where
       let at-back2 = c .before .before in
       let at-match = at-back2 .before .before in
       let at-kid = at-match .before in
-      let at-cell = at-kid .before in
-      wrote-is (ap (writePost _) (node-at _ _ (omega arith) 32 (at-cell .cell .ensures .0) (at-match .match .keys8) (at-kid .kid .ensures .0) refl refl refl refl refl refl)) (at-back2 .back2 .ensures)
+      let at-kind = at-kid .before in
+      wrote-is (ap (writePost _) (node-at _ _ (omega arith) (kindNumber Var) (at-kind .kind .ensures) (at-match .match .keys8) (at-kid .kid .ensures .0) refl refl refl refl refl refl)) (at-back2 .back2 .ensures)
 
   pub same-length-9 : lts.Need-same-length-9 (claims t) (back-at t) back.Post
   same-length-9 c = search needs
@@ -226,17 +227,17 @@ module _ (t : ℕ) where
       let at-if4 = at-kind-at .before .before in
       let at-if3 = at-if4 .before in
       let at-kid = at-if3 .before .before in
-      let at-cell = at-kid .before in
-      wrote-is (post-pointer _ _ _ (omega arith) (at-cell .cell .ensures .0) (at-kid .kid .ensures .0) (at-kind-at .kind-at .ensures _) (omega (arith, at-if3 .if3 .left)) (omega (arith, at-if4 .if4 .taken))) (wrote-seq (at-put-closing .put-closing .ensures) (at-back3 .back3 .ensures))
+      let at-kind = at-kid .before in
+      wrote-is (post-pointer _ _ _ (omega arith) (at-kind .kind .ensures) (at-kid .kid .ensures .0) (at-kind-at .kind-at .ensures _) (omega (arith, at-if3 .if3 .left)) (omega (arith, at-if4 .if4 .taken))) (wrote-seq (at-put-closing .put-closing .ensures) (at-back3 .back3 .ensures))
 
   pub returns-12 : lts.Need-returns-12 (claims t) (back-at t) back.Post
   returns-12 c =
       let at-match = c .before in
-      let at-cell = at-match .before .before in
-      wrote-is (post-rest _ _ _ (omega arith) (at-cell .cell .ensures .0) (at-match .match .rest .0 .0 .0 .0 .0 .0 .0 .1) (at-match .match .rest .0 .0 .0 .0 .0 .0 .1) (at-match .match .rest .0 .0 .0 .0 .0 .1) (at-match .match .rest .0 .0 .0 .0 .1) (at-match .match .rest .0 .0 .0 .1) (at-match .match .rest .0 .0 .1) (at-match .match .rest .0 .1) (at-match .match .rest .1) (inl (omega (arith, c .if3 .taken)))) (wrote-none _ _)
+      let at-kind = at-match .before .before in
+      wrote-is (post-rest _ _ _ (omega arith) (at-kind .kind .ensures) (at-match .match .rest .0 .0 .0 .0 .0 .0 .0 .1) (at-match .match .rest .0 .0 .0 .0 .0 .0 .1) (at-match .match .rest .0 .0 .0 .0 .0 .1) (at-match .match .rest .0 .0 .0 .0 .1) (at-match .match .rest .0 .0 .0 .1) (at-match .match .rest .0 .0 .1) (at-match .match .rest .0 .1) (at-match .match .rest .1) (inl (omega (arith, c .if3 .taken)))) (wrote-none _ _)
 
   pub returns-13 : lts.Need-returns-13 (claims t) (back-at t) back.Post
   returns-13 c =
       let at-match = c .before .before in
-      let at-cell = at-match .before .before in
-      wrote-is (post-rest _ _ _ (omega arith) (at-cell .cell .ensures .0) (at-match .match .rest .0 .0 .0 .0 .0 .0 .0 .1) (at-match .match .rest .0 .0 .0 .0 .0 .0 .1) (at-match .match .rest .0 .0 .0 .0 .0 .1) (at-match .match .rest .0 .0 .0 .0 .1) (at-match .match .rest .0 .0 .0 .1) (at-match .match .rest .0 .0 .1) (at-match .match .rest .0 .1) (at-match .match .rest .1) (inr (omega (arith, c .if4 .left)))) (wrote-none _ _)
+      let at-kind = at-match .before .before in
+      wrote-is (post-rest _ _ _ (omega arith) (at-kind .kind .ensures) (at-match .match .rest .0 .0 .0 .0 .0 .0 .0 .1) (at-match .match .rest .0 .0 .0 .0 .0 .0 .1) (at-match .match .rest .0 .0 .0 .0 .0 .1) (at-match .match .rest .0 .0 .0 .0 .1) (at-match .match .rest .0 .0 .0 .1) (at-match .match .rest .0 .0 .1) (at-match .match .rest .0 .1) (at-match .match .rest .1) (inr (omega (arith, c .if4 .left)))) (wrote-none _ _)

@@ -6,9 +6,9 @@ use Rattle.text.proofs.Seq.{wrote-seq, wrote-is}
 use Rattle.writer.proofs.ByType.{pre-class}
 use borrow.Author.Needs.{needs}
 use Rattle.writer.proofs.+back+cast+class+destructor+entry+front+function+leading+member+name+one+own+own_operator+params+parsed+pointee+pointer+returned+run+scope+structor+types+vftable.Proof.Common.{class-at, name-below}
-use Rattle.node.proofs.cell.Reads as cell-reads
 use Rattle.writer.proofs.class.Reads as class
 use Rattle.meaning.proofs.kid.Reads as kid-reads
+use Rattle.node.proofs.kind.Reads as kind-reads
 use Rattle.writer.proofs.name.Reads as name
 use Rattle.serializer.proofs.lists.number.Reads as number-reads
 use Rattle.serializer.proofs.types.put_class_name.Reads as put-class-name-reads
@@ -16,14 +16,14 @@ use Rattle.serializer.proofs.types.put_storage_class.Reads as put-storage-class
 use Rattle.writer.proofs.+back+cast+class+destructor+entry+front+function+leading+member+name+one+own+own_operator+params+parsed+pointee+pointer+returned+run+scope+structor+types+vftable.Lts-class as lts
 
 abbrev pub claims : ℕ → lts.Claims
-claims t = (cell-reads.Asked, cell-reads.Learnt, put-class-name-reads.Asked, put-class-name-reads.Learnt, kid-reads.Asked, kid-reads.Learnt, name-below t, name.Post, number-reads.Asked, number-reads.Learnt, put-storage-class-reads.Asked, put-storage-class-reads.Learnt)
+claims t = (kind-reads.Asked, kind-reads.Learnt, put-class-name-reads.Asked, put-class-name-reads.Learnt, kid-reads.Asked, kid-reads.Learnt, name-below t, name.Post, number-reads.Asked, number-reads.Learnt, put-storage-class-reads.Asked, put-storage-class-reads.Learnt)
 
 module _ (t : ℕ) where
   pub sub-m : lts.Need-sub-m (claims t) (class-at t) class.Post
   sub-m c = search needs
 
-  pub cell-requires : lts.Need-cell-requires (claims t) (class-at t) class.Post
-  cell-requires c κs = search needs
+  pub kind-requires : lts.Need-kind-requires (claims t) (class-at t) class.Post
+  kind-requires c κs = search needs
 
   pub put-class-name-requires : lts.Need-put-class-name-requires (claims t) (class-at t) class.Post
   put-class-name-requires c κs = search needs
@@ -52,6 +52,6 @@ module _ (t : ℕ) where
       let at-name = at-number .before .before .before .before in
       let at-kid = at-name .before in
       let at-put-class-name = at-kid .before .before .before .before in
-      let at-cell = at-put-class-name .before in
-      let entry = at-cell .before .before .before .before .before in
-      wrote-is (pre-class _ _ _ (entry .pre .1 .0) (at-cell .cell .ensures .0) (at-kid .kid .ensures .0) (at-number .number .ensures) (omega (arith, at-cell .cell .ensures .0, entry .pre .1)) (omega (arith, at-cell .cell .ensures .0, entry .pre .1))) (wrote-seq (at-put-class-name .put-class-name .ensures) (wrote-seq (at-name .name .ensures) (at-put-storage-class .put-storage-class .ensures)))
+      let at-kind = at-put-class-name .before in
+      let entry = at-kind .before .before .before .before .before in
+      wrote-is (pre-class _ _ _ (entry .pre .1 .0) (at-kind .kind .ensures) (at-kid .kid .ensures .0) (at-number .number .ensures) (omega (arith, at-kind .kind .ensures, entry .pre .1)) (omega (arith, at-kind .kind .ensures, entry .pre .1))) (wrote-seq (at-put-class-name .put-class-name .ensures) (wrote-seq (at-name .name .ensures) (at-put-storage-class .put-storage-class .ensures)))

@@ -10,12 +10,13 @@ use Rattle.serializer.specs.Serializer.{writePre}
 use Rattle.serializer.proofs.Nodes.{node-at}
 use Rattle.writer.proofs.Falls.{under}
 use Rattle.writer.proofs.ByType.{pre-plain, pre-none}
+use Rattle.node.specs.Kind.{kindNumber, Array, MemberFunction, NonMemberFunction, Var}
 use borrow.Author.Needs.{needs}
 use Rattle.writer.proofs.+back+cast+class+destructor+entry+front+function+leading+member+name+one+own+own_operator+params+parsed+pointee+pointer+returned+run+scope+structor+types+vftable.Proof.Common.{front-at, class-below, front-below, member-below, pointer-below}
-use Rattle.node.proofs.cell.Reads as cell-reads
 use Rattle.writer.proofs.class.Reads as class
 use Rattle.writer.proofs.front.Reads as front
 use Rattle.meaning.proofs.kid.Reads as kid-reads
+use Rattle.node.proofs.kind.Reads as kind-reads
 use Rattle.writer.proofs.member.Reads as member
 use Rattle.serializer.proofs.lists.number.Reads as number-reads
 use Rattle.writer.proofs.pointer.Reads as pointer
@@ -27,7 +28,7 @@ use Rattle.serializer.proofs.types.put_var_kind.Reads as put-var-kind-reads
 use Rattle.writer.proofs.+back+cast+class+destructor+entry+front+function+leading+member+name+one+own+own_operator+params+parsed+pointee+pointer+returned+run+scope+structor+types+vftable.Lts-front as lts
 
 abbrev pub claims : ℕ → lts.Claims
-claims t = (cell-reads.Asked, cell-reads.Learnt, kid-reads.Asked, kid-reads.Learnt, number-reads.Asked, number-reads.Learnt, put-func-class-reads.Asked, put-func-class-reads.Learnt, front-below t, front.Post, put-calling-conv-reads.Asked, put-calling-conv-reads.Learnt, member-below t, member.Post, put-storage-class-reads.Asked, put-storage-class-reads.Learnt, put-var-kind-reads.Asked, put-var-kind-reads.Learnt, pointer-below t, pointer.Post, class-below t, class.Post, put-plain-reads.Asked, put-plain-reads.Learnt)
+claims t = (kind-reads.Asked, kind-reads.Learnt, kid-reads.Asked, kid-reads.Learnt, number-reads.Asked, number-reads.Learnt, put-func-class-reads.Asked, put-func-class-reads.Learnt, front-below t, front.Post, put-calling-conv-reads.Asked, put-calling-conv-reads.Learnt, member-below t, member.Post, put-storage-class-reads.Asked, put-storage-class-reads.Learnt, put-var-kind-reads.Asked, put-var-kind-reads.Learnt, pointer-below t, pointer.Post, class-below t, class.Post, put-plain-reads.Asked, put-plain-reads.Learnt)
 
 module _ (t : ℕ) where
   pub returns : lts.Need-returns (claims t) (front-at t) front.Post
@@ -39,8 +40,8 @@ module _ (t : ℕ) where
   pub sub-m : lts.Need-sub-m (claims t) (front-at t) front.Post
   sub-m c = search needs
 
-  pub cell-requires : lts.Need-cell-requires (claims t) (front-at t) front.Post
-  cell-requires c κs = search needs
+  pub kind-requires : lts.Need-kind-requires (claims t) (front-at t) front.Post
+  kind-requires c κs = search needs
 
   pub kid-requires : lts.Need-kid-requires (claims t) (front-at t) front.Post
   kid-requires c κs = search needs
@@ -67,9 +68,9 @@ module _ (t : ℕ) where
   pub member-requires : lts.Need-member-requires (claims t) (front-at t) front.Post
   member-requires c κs =
       let at-match = c .before in
-      let at-cell = at-match .before .before in
-      let entry = at-cell .before .before .before .before .before .before in
-      (omega (arith, entry .pre), (omega arith, sym (at-cell .cell .ensures .0) ∙ at-match .match .keys2))
+      let at-kind = at-match .before .before in
+      let entry = at-kind .before .before .before .before .before .before in
+      (omega (arith, entry .pre), (omega arith, sym (at-kind .kind .ensures) ∙ at-match .match .keys2))
 
   pub front-requires-2 : lts.Need-front-requires-2 (claims t) (front-at t) front.Post
   front-requires-2 c κs =
@@ -120,18 +121,18 @@ module _ (t : ℕ) where
   pointer-requires c κs =
       let at-if4 = c .before in
       let at-if3 = at-if4 .before in
-      let at-cell = at-if3 .before .before .before in
-      let entry = at-cell .before .before .before .before .before .before in
-      (omega (arith, entry .pre), (omega arith, omega (arith, at-cell .cell .ensures .0, at-if3 .if3 .left), omega (arith, at-cell .cell .ensures .0, at-if4 .if4 .taken)))
+      let at-kind = at-if3 .before .before .before in
+      let entry = at-kind .before .before .before .before .before .before in
+      (omega (arith, entry .pre), (omega arith, omega (arith, at-kind .kind .ensures, at-if3 .if3 .left), omega (arith, at-kind .kind .ensures, at-if4 .if4 .taken)))
 
   pub class-requires : lts.Need-class-requires (claims t) (front-at t) front.Post
   class-requires c κs =
       let at-if5 = c .before in
       let at-if4 = at-if5 .before in
       let at-match = at-if4 .before .before in
-      let at-cell = at-match .before .before in
-      let entry = at-cell .before .before .before .before .before .before in
-      (omega (arith, entry .pre), (omega arith, omega (arith, at-cell .cell .ensures .0, at-if4 .if4 .left, at-match .match .rest), omega (arith, at-cell .cell .ensures .0, at-if5 .if5 .taken)))
+      let at-kind = at-match .before .before in
+      let entry = at-kind .before .before .before .before .before .before in
+      (omega (arith, entry .pre), (omega arith, omega (arith, at-kind .kind .ensures, at-if4 .if4 .left, at-match .match .rest), omega (arith, at-kind .kind .ensures, at-if5 .if5 .taken)))
 
   pub number-requires-7 : lts.Need-number-requires-7 (claims t) (front-at t) front.Post
   number-requires-7 c κs = search needs
@@ -155,8 +156,8 @@ module _ (t : ℕ) where
       let at-number = at-put-func-class .before in
       let at-match = at-number .before .before in
       let at-kid = at-match .before in
-      let at-cell = at-kid .before in
-      wrote-is (ap (writePre _) (node-at _ _ (omega arith) 18 (at-cell .cell .ensures .0) (at-match .match .keys1) (at-kid .kid .ensures .0) refl refl refl (at-number2 .number2 .ensures) (at-number .number .ensures) refl)) (wrote-seq (at-put-func-class .put-func-class .ensures) (wrote-seq (at-front .front .ensures) (at-put-calling-conv .put-calling-conv .ensures)))
+      let at-kind = at-kid .before in
+      wrote-is (ap (writePre _) (node-at _ _ (omega arith) (kindNumber MemberFunction) (at-kind .kind .ensures) (at-match .match .keys1) (at-kid .kid .ensures .0) refl refl refl (at-number2 .number2 .ensures) (at-number .number .ensures) refl)) (wrote-seq (at-put-func-class .put-func-class .ensures) (wrote-seq (at-front .front .ensures) (at-put-calling-conv .put-calling-conv .ensures)))
 
   pub same-length-2 : lts.Need-same-length-2 (claims t) (front-at t) front.Post
   same-length-2 c = search needs
@@ -175,8 +176,8 @@ module _ (t : ℕ) where
       let at-front2 = at-number3 .before .before .before .before in
       let at-match = at-front2 .before .before in
       let at-kid = at-match .before in
-      let at-cell = at-kid .before in
-      wrote-is (ap (writePre _) (node-at _ _ (omega arith) 20 (at-cell .cell .ensures .0) (at-match .match .keys3) (at-kid .kid .ensures .0) refl refl refl (at-number3 .number3 .ensures) refl refl)) (wrote-seq (at-front2 .front2 .ensures) (at-put-calling-conv2 .put-calling-conv2 .ensures))
+      let at-kind = at-kid .before in
+      wrote-is (ap (writePre _) (node-at _ _ (omega arith) (kindNumber NonMemberFunction) (at-kind .kind .ensures) (at-match .match .keys3) (at-kid .kid .ensures .0) refl refl refl (at-number3 .number3 .ensures) refl refl)) (wrote-seq (at-front2 .front2 .ensures) (at-put-calling-conv2 .put-calling-conv2 .ensures))
 
   pub same-length-4 : lts.Need-same-length-4 (claims t) (front-at t) front.Post
   same-length-4 c = search needs
@@ -189,8 +190,8 @@ module _ (t : ℕ) where
       let at-front3 = at-number4 .before .before .before .before in
       let at-match = at-front3 .before .before in
       let at-kid = at-match .before in
-      let at-cell = at-kid .before in
-      wrote-is (ap (writePre _) (node-at _ _ (omega arith) 31 (at-cell .cell .ensures .0) (at-match .match .keys4) (at-kid .kid .ensures .0) refl refl (at-number4 .number4 .ensures) refl refl refl)) (wrote-seq (at-front3 .front3 .ensures) (at-put-storage-class .put-storage-class .ensures))
+      let at-kind = at-kid .before in
+      wrote-is (ap (writePre _) (node-at _ _ (omega arith) (kindNumber Array) (at-kind .kind .ensures) (at-match .match .keys4) (at-kid .kid .ensures .0) refl refl (at-number4 .number4 .ensures) refl refl refl)) (wrote-seq (at-front3 .front3 .ensures) (at-put-storage-class .put-storage-class .ensures))
 
   pub same-length-5 : lts.Need-same-length-5 (claims t) (front-at t) front.Post
   same-length-5 c = search needs
@@ -205,8 +206,8 @@ module _ (t : ℕ) where
       let at-number5 = at-put-var-kind .before in
       let at-match = at-number5 .before .before in
       let at-kid = at-match .before in
-      let at-cell = at-kid .before in
-      wrote-is (ap (writePre _) (node-at _ _ (omega arith) 32 (at-cell .cell .ensures .0) (at-match .match .keys5) (at-kid .kid .ensures .0) refl refl (at-number6 .number6 .ensures) (at-number5 .number5 .ensures) refl refl)) (wrote-seq (at-put-var-kind .put-var-kind .ensures) (wrote-seq (at-front4 .front4 .ensures) (at-put-storage-class2 .put-storage-class2 .ensures)))
+      let at-kind = at-kid .before in
+      wrote-is (ap (writePre _) (node-at _ _ (omega arith) (kindNumber Var) (at-kind .kind .ensures) (at-match .match .keys5) (at-kid .kid .ensures .0) refl refl (at-number6 .number6 .ensures) (at-number5 .number5 .ensures) refl refl)) (wrote-seq (at-put-var-kind .put-var-kind .ensures) (wrote-seq (at-front4 .front4 .ensures) (at-put-storage-class2 .put-storage-class2 .ensures)))
 
   pub same-length-6 : lts.Need-same-length-6 (claims t) (front-at t) front.Post
   same-length-6 c = search needs
@@ -230,5 +231,5 @@ module _ (t : ℕ) where
       let at-number7 = at-number8 .before in
       let at-if3 = at-number7 .before .before in
       let at-match = at-if3 .before in
-      let at-cell = at-match .before .before in
-      wrote-is (pre-plain _ _ _ (omega arith) (at-cell .cell .ensures .0) (at-number7 .number7 .ensures) (at-number8 .number8 .ensures) (at-match .match .rest .0 .0 .0 .0 .1) (at-match .match .rest .0 .0 .0 .1) (at-match .match .rest .0 .0 .1) (at-match .match .rest .0 .1) (at-match .match .rest .1) (⊎-elim (λ w. inl (omega (arith, w))) (λ w. inr (omega (arith, w))) (at-if3 .if3 .came))) (at-put-plain .put-plain .ensures)
+      let at-kind = at-match .before .before in
+      wrote-is (pre-plain _ _ _ (omega arith) (at-kind .kind .ensures) (at-number7 .number7 .ensures) (at-number8 .number8 .ensures) (at-match .match .rest .0 .0 .0 .0 .1) (at-match .match .rest .0 .0 .0 .1) (at-match .match .rest .0 .0 .1) (at-match .match .rest .0 .1) (at-match .match .rest .1) (⊎-elim (λ w. inl (omega (arith, w))) (λ w. inr (omega (arith, w))) (at-if3 .if3 .came))) (at-put-plain .put-plain .ensures)

@@ -12,6 +12,7 @@ use Rattle.serializer.proofs.Nodes.{node-at}
 use Rattle.serializer.proofs.Walks.{guard-not}
 use Rattle.writer.proofs.Falls.{under}
 use Rattle.writer.proofs.ByType.{cast-not, kind-cell}
+use Rattle.node.specs.Kind.{kindNumber, MemberFunctionPointer}
 use borrow.Author.Needs.{needs}
 use Rattle.writer.proofs.+back+cast+class+destructor+entry+front+function+leading+member+name+one+own+own_operator+params+parsed+pointee+pointer+returned+run+scope+structor+types+vftable.Proof.Common.{member-at, front-below, name-below}
 use Rattle.writer.proofs.front.Reads as front
@@ -78,4 +79,4 @@ module _ (t : ℕ) where
       let at-front = at-number .before .before .before .before in
       let at-kid = at-front .before in
       let entry = at-kid .before .before .before .before .before in
-      wrote-is (ap (writePre _) (node-at _ _ (entry .pre .1 .0) 19 refl (entry .pre .1 .1) (at-kid .kid .ensures .0) refl (at-kid2 .kid2 .ensures .0) refl (at-number .number .ensures) refl refl)) (wrote-seq (at-front .front .ensures) (wrote-seq (at-put-opening .put-opening .ensures) (wrote-seq (at-put-space .put-space .ensures) (wrote-seq (at-put-space2 .put-space2 .ensures) (wrote-seq (wrote-is (ap₂ (λ g c. writeName (entry .args .flags) g c (treeOf (entry .args .table .now) (entry .args .symbol .now) (at-kid2 .kid2 .result))) (sym (guard-not _ refl (λ e. omega (arith, e, kind-cell (entry .args .table .now) (entry .args .symbol .now) (entry .args .r) (entry .pre .1 .0), entry .pre .1)))) (sym (cast-not _ _ (λ e. omega (arith, e, kind-cell (entry .args .table .now) (entry .args .symbol .now) (entry .args .r) (entry .pre .1 .0), entry .pre .1))))) (at-name .name .ensures)) (at-put-word .put-word .ensures))))))
+      wrote-is (ap (writePre _) (node-at _ _ (entry .pre .1 .0) (kindNumber MemberFunctionPointer) refl (entry .pre .1 .1) (at-kid .kid .ensures .0) refl (at-kid2 .kid2 .ensures .0) refl (at-number .number .ensures) refl refl)) (wrote-seq (at-front .front .ensures) (wrote-seq (at-put-opening .put-opening .ensures) (wrote-seq (at-put-space .put-space .ensures) (wrote-seq (at-put-space2 .put-space2 .ensures) (wrote-seq (wrote-is (ap₂ (λ g c. writeName (entry .args .flags) g c (treeOf (entry .args .table .now) (entry .args .symbol .now) (at-kid2 .kid2 .result))) (sym (guard-not _ refl (λ e. omega (arith, e, kind-cell (entry .args .table .now) (entry .args .symbol .now) (entry .args .r) (entry .pre .1 .0), entry .pre .1)))) (sym (cast-not _ _ (λ e. omega (arith, e, kind-cell (entry .args .table .now) (entry .args .symbol .now) (entry .args .r) (entry .pre .1 .0), entry .pre .1))))) (at-name .name .ensures)) (at-put-word .put-word .ensures))))))

@@ -11,13 +11,14 @@ use Rattle.text.proofs.Seq.{wrote-seq, wrote-none, wrote-full, wrote-is}
 use Rattle.serializer.specs.Serializer.{writeOneName}
 use Rattle.serializer.proofs.Nodes.{node-at}
 use Rattle.writer.proofs.Falls.{under}
+use Rattle.node.specs.Kind.{kindNumber, Operator, ParsedName, RttiBaseClassDescriptor, RttiTypeDescriptor, Template}
 use Rattle.writer.proofs.ByName.{one-none, one-plain}
 use borrow.Author.Needs.{needs}
 use Rattle.writer.proofs.+back+cast+class+destructor+entry+front+function+leading+member+name+one+own+own_operator+params+parsed+pointee+pointer+returned+run+scope+structor+types+vftable.Proof.Common.{one-at, front-below, one-below, params-below, parsed-below}
-use Rattle.node.proofs.cell.Reads as cell-reads
 use Rattle.writer.proofs.descriptor.Reads as descriptor-reads
 use Rattle.writer.proofs.front.Reads as front
 use Rattle.meaning.proofs.kid.Reads as kid-reads
+use Rattle.node.proofs.kind.Reads as kind-reads
 use Rattle.serializer.proofs.lists.number.Reads as number-reads
 use Rattle.writer.proofs.one.Reads as one
 use Rattle.writer.proofs.params.Reads as params
@@ -30,7 +31,7 @@ use Rattle.text.proofs.words.put_word.Reads as put-word-reads
 use Rattle.writer.proofs.+back+cast+class+destructor+entry+front+function+leading+member+name+one+own+own_operator+params+parsed+pointee+pointer+returned+run+scope+structor+types+vftable.Lts-one as lts
 
 abbrev pub claims : ℕ → lts.Claims
-claims t = (cell-reads.Asked, cell-reads.Learnt, kid-reads.Asked, kid-reads.Learnt, number-reads.Asked, number-reads.Learnt, put-operator-reads.Asked, put-operator-reads.Learnt, put-space-reads.Asked, put-space-reads.Learnt, front-below t, front.Post, put-word-reads.Asked, put-word-reads.Learnt, descriptor-reads.Asked, descriptor-reads.Learnt, one-below t, one.Post, params-below t, params.Post, put-reads.Asked, put-reads.Learnt, parsed-below t, parsed.Post, put-plain-name-reads.Asked, put-plain-name-reads.Learnt)
+claims t = (kind-reads.Asked, kind-reads.Learnt, kid-reads.Asked, kid-reads.Learnt, number-reads.Asked, number-reads.Learnt, put-operator-reads.Asked, put-operator-reads.Learnt, put-space-reads.Asked, put-space-reads.Learnt, front-below t, front.Post, put-word-reads.Asked, put-word-reads.Learnt, descriptor-reads.Asked, descriptor-reads.Learnt, one-below t, one.Post, params-below t, params.Post, put-reads.Asked, put-reads.Learnt, parsed-below t, parsed.Post, put-plain-name-reads.Asked, put-plain-name-reads.Learnt)
 
 module _ (t : ℕ) where
   pub returns : lts.Need-returns (claims t) (one-at t) one.Post
@@ -42,8 +43,8 @@ module _ (t : ℕ) where
   pub sub-m : lts.Need-sub-m (claims t) (one-at t) one.Post
   sub-m c = search needs
 
-  pub cell-requires : lts.Need-cell-requires (claims t) (one-at t) one.Post
-  cell-requires c κs = search needs
+  pub kind-requires : lts.Need-kind-requires (claims t) (one-at t) one.Post
+  kind-requires c κs = search needs
 
   pub kid-requires : lts.Need-kid-requires (claims t) (one-at t) one.Post
   kid-requires c κs = search needs
@@ -117,8 +118,8 @@ module _ (t : ℕ) where
       let at-put-operator = c .before .before in
       let at-number = at-put-operator .before in
       let at-match = at-number .before .before in
-      let at-cell = at-match .before .before in
-      wrote-is (ap (writeOneName _) (node-at _ _ (omega arith) 7 (at-cell .cell .ensures .0) (at-match .match .keys1) refl refl refl (at-number .number .ensures) refl refl refl)) (at-put-operator .put-operator .ensures)
+      let at-kind = at-match .before .before in
+      wrote-is (ap (writeOneName _) (node-at _ _ (omega arith) (kindNumber Operator) (at-kind .kind .ensures) (at-match .match .keys1) refl refl refl (at-number .number .ensures) refl refl refl)) (at-put-operator .put-operator .ensures)
 
   pub same-length-2 : lts.Need-same-length-2 (claims t) (one-at t) one.Post
   same-length-2 c = search needs
@@ -131,8 +132,8 @@ module _ (t : ℕ) where
       let at-put-space = at-front .before .before .before .before in
       let at-match = at-put-space .before .before in
       let at-kid = at-match .before in
-      let at-cell = at-kid .before in
-      wrote-is (ap (writeOneName _) (node-at _ _ (omega arith) 8 (at-cell .cell .ensures .0) (at-match .match .keys2) (at-kid .kid .ensures .0) refl refl refl refl refl refl)) (wrote-seq (at-put-space .put-space .ensures) (wrote-seq (at-front .front .ensures) (at-put-word .put-word .ensures)))
+      let at-kind = at-kid .before in
+      wrote-is (ap (writeOneName _) (node-at _ _ (omega arith) (kindNumber RttiTypeDescriptor) (at-kind .kind .ensures) (at-match .match .keys2) (at-kid .kid .ensures .0) refl refl refl refl refl refl)) (wrote-seq (at-put-space .put-space .ensures) (wrote-seq (at-front .front .ensures) (at-put-word .put-word .ensures)))
 
   pub same-length-3 : lts.Need-same-length-3 (claims t) (one-at t) one.Post
   same-length-3 c = search needs
@@ -142,8 +143,8 @@ module _ (t : ℕ) where
   returns-5 c =
       let at-descriptor = c .before .before in
       let at-match = at-descriptor .before .before in
-      let at-cell = at-match .before .before in
-      wrote-is (ap (writeOneName _) (node-at _ _ (omega arith) 9 (at-cell .cell .ensures .0) (at-match .match .keys3) refl refl refl refl refl refl refl)) (at-descriptor .descriptor .ensures)
+      let at-kind = at-match .before .before in
+      wrote-is (ap (writeOneName _) (node-at _ _ (omega arith) (kindNumber RttiBaseClassDescriptor) (at-kind .kind .ensures) (at-match .match .keys3) refl refl refl refl refl refl refl)) (at-descriptor .descriptor .ensures)
 
   pub same-length-4 : lts.Need-same-length-4 (claims t) (one-at t) one.Post
   same-length-4 c = search needs
@@ -156,8 +157,8 @@ module _ (t : ℕ) where
       let at-one = at-kid2 .before .before .before .before in
       let at-match = at-one .before .before in
       let at-kid = at-match .before in
-      let at-cell = at-kid .before in
-      wrote-is (ap (writeOneName _) (node-at _ _ (omega arith) 12 (at-cell .cell .ensures .0) (at-match .match .keys4) (at-kid .kid .ensures .0) (at-kid2 .kid2 .ensures .0) refl refl refl refl refl)) (wrote-seq (at-one .one .ensures) (at-params .params .ensures))
+      let at-kind = at-kid .before in
+      wrote-is (ap (writeOneName _) (node-at _ _ (omega arith) (kindNumber Template) (at-kind .kind .ensures) (at-match .match .keys4) (at-kid .kid .ensures .0) (at-kid2 .kid2 .ensures .0) refl refl refl refl refl)) (wrote-seq (at-one .one .ensures) (at-params .params .ensures))
 
   pub same-length-5 : lts.Need-same-length-5 (claims t) (one-at t) one.Post
   same-length-5 c = search needs
@@ -170,8 +171,8 @@ module _ (t : ℕ) where
       let at-put = at-parsed .before .before .before .before in
       let at-match = at-put .before .before in
       let at-kid = at-match .before in
-      let at-cell = at-kid .before in
-      wrote-is (ap (writeOneName _) (node-at _ _ (omega arith) 14 (at-cell .cell .ensures .0) (at-match .match .keys5) (at-kid .kid .ensures .0) refl refl refl refl refl refl)) (wrote-seq (at-put .put .ensures) (wrote-seq (at-parsed .parsed .ensures) (at-put2 .put2 .ensures)))
+      let at-kind = at-kid .before in
+      wrote-is (ap (writeOneName _) (node-at _ _ (omega arith) (kindNumber ParsedName) (at-kind .kind .ensures) (at-match .match .keys5) (at-kid .kid .ensures .0) refl refl refl refl refl refl)) (wrote-seq (at-put .put .ensures) (wrote-seq (at-parsed .parsed .ensures) (at-put2 .put2 .ensures)))
 
   pub same-length-6 : lts.Need-same-length-6 (claims t) (one-at t) one.Post
   same-length-6 c = search needs
@@ -182,5 +183,5 @@ module _ (t : ℕ) where
       let at-number3 = at-put-plain-name .before in
       let at-number2 = at-number3 .before in
       let at-match = at-number2 .before .before in
-      let at-cell = at-match .before .before in
-      wrote-is (one-plain _ _ _ (omega arith) (at-cell .cell .ensures .0) (at-number2 .number2 .ensures) (at-number3 .number3 .ensures) (at-match .match .rest .0 .0 .0 .0 .1) (at-match .match .rest .0 .0 .0 .1) (at-match .match .rest .0 .0 .1) (at-match .match .rest .0 .1) (at-match .match .rest .1)) (at-put-plain-name .put-plain-name .ensures)
+      let at-kind = at-match .before .before in
+      wrote-is (one-plain _ _ _ (omega arith) (at-kind .kind .ensures) (at-number2 .number2 .ensures) (at-number3 .number3 .ensures) (at-match .match .rest .0 .0 .0 .0 .1) (at-match .match .rest .0 .0 .0 .1) (at-match .match .rest .0 .0 .1) (at-match .match .rest .0 .1) (at-match .match .rest .1)) (at-put-plain-name .put-plain-name .ensures)

@@ -6,12 +6,12 @@ use Rattle.text.specs.Emit.{put}
 use Rattle.text.specs.Spaces.{asksBy, writeSpace}
 use Rattle.text.proofs.Seq.{wrote-seq, wrote-none, wrote-is}
 use Rattle.writer.proofs.Falls.{under}
-use Rattle.writer.proofs.ByType.{pointee-18, pointee-20, pointee-31, pointee-rest, pointee-none}
+use Rattle.writer.proofs.ByType.{pointee-member, pointee-function, pointee-array, pointee-rest, pointee-none}
 use borrow.Author.Needs.{needs}
 use Rattle.writer.proofs.+back+cast+class+destructor+entry+front+function+leading+member+name+one+own+own_operator+params+parsed+pointee+pointer+returned+run+scope+structor+types+vftable.Proof.Common.{pointee-at, front-below}
-use Rattle.node.proofs.cell.Reads as cell-reads
 use Rattle.writer.proofs.front.Reads as front
 use Rattle.meaning.proofs.kid.Reads as kid-reads
+use Rattle.node.proofs.kind.Reads as kind-reads
 use Rattle.serializer.proofs.lists.number.Reads as number-reads
 use Rattle.writer.proofs.pointee.Reads as pointee
 use Rattle.serializer.proofs.types.put_opening.Reads as put-opening-reads
@@ -20,7 +20,7 @@ use Rattle.text.proofs.spaces.put_space.Reads as put-space-reads
 use Rattle.writer.proofs.+back+cast+class+destructor+entry+front+function+leading+member+name+one+own+own_operator+params+parsed+pointee+pointer+returned+run+scope+structor+types+vftable.Lts-pointee as lts
 
 abbrev pub claims : ℕ → lts.Claims
-claims t = (cell-reads.Asked, cell-reads.Learnt, kid-reads.Asked, kid-reads.Learnt, front-below t, front.Post, number-reads.Asked, number-reads.Learnt, put-opening-reads.Asked, put-opening-reads.Learnt, put-space-reads.Asked, put-space-reads.Learnt, put-reads.Asked, put-reads.Learnt)
+claims t = (kind-reads.Asked, kind-reads.Learnt, kid-reads.Asked, kid-reads.Learnt, front-below t, front.Post, number-reads.Asked, number-reads.Learnt, put-opening-reads.Asked, put-opening-reads.Learnt, put-space-reads.Asked, put-space-reads.Learnt, put-reads.Asked, put-reads.Learnt)
 
 module _ (t : ℕ) where
   pub returns : lts.Need-returns (claims t) (pointee-at t) pointee.Post
@@ -29,8 +29,8 @@ module _ (t : ℕ) where
   pub sub-m : lts.Need-sub-m (claims t) (pointee-at t) pointee.Post
   sub-m c = search needs
 
-  pub cell-requires : lts.Need-cell-requires (claims t) (pointee-at t) pointee.Post
-  cell-requires c κs = search needs
+  pub kind-requires : lts.Need-kind-requires (claims t) (pointee-at t) pointee.Post
+  kind-requires c κs = search needs
 
   pub kid-requires : lts.Need-kid-requires (claims t) (pointee-at t) pointee.Post
   kid-requires c κs = search needs
@@ -88,8 +88,8 @@ module _ (t : ℕ) where
       let at-front = at-number .before .before .before .before in
       let at-kid = at-front .before in
       let at-match = at-kid .before .before in
-      let at-cell = at-match .before in
-      wrote-is (pointee-18 _ _ _ (omega arith) (at-cell .cell .ensures .0) (at-kid .kid .ensures .0) (at-number .number .ensures) (at-match .match .keys1)) (wrote-seq (at-front .front .ensures) (at-put-opening .put-opening .ensures))
+      let at-kind = at-match .before in
+      wrote-is (pointee-member _ _ _ (omega arith) (at-kind .kind .ensures) (at-kid .kid .ensures .0) (at-number .number .ensures) (at-match .match .keys1)) (wrote-seq (at-front .front .ensures) (at-put-opening .put-opening .ensures))
 
   pub same-length-2 : lts.Need-same-length-2 (claims t) (pointee-at t) pointee.Post
   same-length-2 c = search needs
@@ -101,8 +101,8 @@ module _ (t : ℕ) where
       let at-front2 = at-number2 .before .before .before .before in
       let at-kid2 = at-front2 .before in
       let at-match = at-kid2 .before .before in
-      let at-cell = at-match .before in
-      wrote-is (pointee-20 _ _ _ (omega arith) (at-cell .cell .ensures .0) (at-kid2 .kid2 .ensures .0) (at-number2 .number2 .ensures) (at-match .match .keys2)) (wrote-seq (at-front2 .front2 .ensures) (at-put-opening2 .put-opening2 .ensures))
+      let at-kind = at-match .before in
+      wrote-is (pointee-function _ _ _ (omega arith) (at-kind .kind .ensures) (at-kid2 .kid2 .ensures .0) (at-number2 .number2 .ensures) (at-match .match .keys2)) (wrote-seq (at-front2 .front2 .ensures) (at-put-opening2 .put-opening2 .ensures))
 
   pub same-length-3 : lts.Need-same-length-3 (claims t) (pointee-at t) pointee.Post
   same-length-3 c = search needs
@@ -114,8 +114,8 @@ module _ (t : ℕ) where
       let at-put-space = at-put .before .before .before .before in
       let at-front3 = at-put-space .before .before .before .before in
       let at-match = at-front3 .before .before in
-      let at-cell = at-match .before in
-      wrote-is (pointee-31 _ _ _ (omega arith) (at-cell .cell .ensures .0) _ _ (at-match .match .keys3)) (wrote-seq (at-front3 .front3 .ensures) (wrote-seq (at-put-space .put-space .ensures) (at-put .put .ensures)))
+      let at-kind = at-match .before in
+      wrote-is (pointee-array _ _ _ (omega arith) (at-kind .kind .ensures) _ _ (at-match .match .keys3)) (wrote-seq (at-front3 .front3 .ensures) (wrote-seq (at-put-space .put-space .ensures) (at-put .put .ensures)))
 
   pub same-length-4 : lts.Need-same-length-4 (claims t) (pointee-at t) pointee.Post
   same-length-4 c = search needs
@@ -124,5 +124,5 @@ module _ (t : ℕ) where
   returns-5 c =
       let at-front4 = c .before .before in
       let at-match = at-front4 .before .before in
-      let at-cell = at-match .before in
-      wrote-is (pointee-rest _ _ _ (omega arith) (at-cell .cell .ensures .0) _ _ (at-match .match .rest .0 .0 .1) (at-match .match .rest .0 .1) (at-match .match .rest .1)) (at-front4 .front4 .ensures)
+      let at-kind = at-match .before in
+      wrote-is (pointee-rest _ _ _ (omega arith) (at-kind .kind .ensures) _ _ (at-match .match .rest .0 .0 .1) (at-match .match .rest .0 .1) (at-match .match .rest .1)) (at-front4 .front4 .ensures)

@@ -10,6 +10,7 @@ use Rattle.text.proofs.Seq.{wrote-seq, wrote-is}
 use Rattle.serializer.specs.Serializer.{writePost, writeOneQual}
 use Rattle.serializer.proofs.Nodes.{node-at}
 use Rattle.writer.proofs.Falls.{under}
+use Rattle.node.specs.Kind.{kindNumber, MemberFunctionPointer}
 use borrow.Author.Needs.{needs}
 use Rattle.writer.proofs.+back+cast+class+destructor+entry+front+function+leading+member+name+one+own+own_operator+params+parsed+pointee+pointer+returned+run+scope+structor+types+vftable.Proof.Common.{returned-at, back-below, types-below}
 use Rattle.writer.proofs.back.Reads as back
@@ -72,4 +73,4 @@ module _ (t : ℕ) where
       let at-kid = at-types .before in
       let at-put-word = at-kid .before .before .before .before in
       let entry = at-put-word .before .before .before .before .before in
-      wrote-is (ap (writePost _) (node-at _ _ (entry .pre .1 .0) 19 refl (entry .pre .1 .1) (at-kid2 .kid2 .ensures .0) (at-kid .kid .ensures .0) refl (at-number .number .ensures) refl refl refl)) (wrote-seq (at-put-word .put-word .ensures) (wrote-seq (at-types .types .ensures) (wrote-seq (at-put .put .ensures) (wrote-seq (at-back .back .ensures) (at-put-apart-if .put-apart-if .ensures)))))
+      wrote-is (ap (writePost _) (node-at _ _ (entry .pre .1 .0) (kindNumber MemberFunctionPointer) refl (entry .pre .1 .1) (at-kid2 .kid2 .ensures .0) (at-kid .kid .ensures .0) refl (at-number .number .ensures) refl refl refl)) (wrote-seq (at-put-word .put-word .ensures) (wrote-seq (at-types .types .ensures) (wrote-seq (at-put .put .ensures) (wrote-seq (at-back .back .ensures) (at-put-apart-if .put-apart-if .ensures)))))
