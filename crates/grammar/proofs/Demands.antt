@@ -176,7 +176,7 @@ module _ {Tag : Type 0} {Ans : Tag → Type 0} (body : (tag : Tag) → Program T
       (d d′ : ℕ) → limit + d′ ≡ deepestReading + d → (tag : Tag) (st : State) (l : Log) → fits limit nodes (l .asked) ≡ true →
       readNodes body same s limit nodes d tag st (l .nodes) ≡ settle limit nodes (readAsking body same s d′ tag st l)
   unfolding readNodes readAsking
-  reads-settle zero zero e tag st l h = sym (one-over limit nodes (l .asked) _ _ h (leb-not 201 limit (omega arith)))
+  reads-settle zero zero e tag st l h = sym (one-over limit nodes (l .asked) _ _ h (leb-not (suc deepestReading) limit (omega arith)))
   reads-settle zero (suc d′) e tag st l h =
       let l₁ : Log = asking (deepestReading - d′) st l in
       let z = run s (λ used l. same used (l .nodes)) shutAsking (readAsking body same s d′) (body tag) (opened (deepestReading - d′) st) l₁ in
@@ -248,7 +248,7 @@ module _ {Tag : Type 0} {Ans : Tag → Type 0} (s : List ℕ) (same : Same Log) 
 module _ {Tag : Type 0} {Ans : Tag → Type 0} (body : (tag : Tag) → Program Tag Ans (Ans tag)) (same : Same (List Node)) (s : List ℕ) where
   reads-counted : (d : ℕ) (tag : Tag) (st : State) (l : Log) → Counted st l → Counted (readAsking body same s d tag st l .state) (readAsking body same s d tag st l .cells)
   unfolding readAsking
-  reads-counted zero tag st l c = counted-asking 201 c refl refl
+  reads-counted zero tag st l c = counted-asking (suc deepestReading) c refl refl
   reads-counted (suc d) tag st l c = run-counted s (λ used l. same used (l .nodes)) (readAsking body same s d) (reads-counted d) (body tag) (opened (deepestReading - d) st) (asking (deepestReading - d) st l) (counted-asking (deepestReading - d) c refl refl)
 
 -- demands fit where the largest of each limit does; where only those of one limit do not, it refuses by its name

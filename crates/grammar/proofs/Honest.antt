@@ -72,5 +72,5 @@ shuts-honest kd numbers refs st l h = record {
 module _ {Tag : Type 0} {Ans : Tag → Type 0} (body : (tag : Tag) → Program Tag Ans (Ans tag)) (same : Same (List Node)) (s : List ℕ) where
   pub reads-honest : (d : ℕ) (tag : Tag) (st : State) (l : Log) → HonestLog (st .used) l → HonestLog (readAsking body same s d tag st l .state .used) (readAsking body same s d tag st l .cells)
   unfolding readAsking
-  reads-honest zero tag st l h = asks-honest 201 st l h
+  reads-honest zero tag st l h = asks-honest (suc deepestReading) st l h
   reads-honest (suc d) tag st l h = run-keeps HonestLog s (λ used l. same used (l .nodes)) shutAsking (readAsking body same s d) shuts-honest (reads-honest d) (body tag) (opened (deepestReading - d) st) (asking (deepestReading - d) st l) (asks-honest (deepestReading - d) st l h)

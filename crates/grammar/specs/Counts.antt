@@ -31,7 +31,7 @@ abbrev pub tallest : List Node → List ℕ → ℕ
 tallest ns [] = 0
 tallest ns (r ∷ rs) = max (heightOf ns r) (tallest ns rs)
 
--- a node stands one above what it refers to; a place of a list (kinds 1 and 2) adds no height
+-- a node stands one above what it refers to; a place of a list adds no height
 abbrev pub rises : ℕ → ℕ
 rises kind = pick (isPlace kind) 0 1
 
@@ -95,7 +95,7 @@ asking count st l = record { nodes = l .nodes; asked = l .asked ++ (record { lim
 -- a part of a grammar, read where d more parts may open: no limit but the deepest reading, past which it stops with a demand of one more
 module _ {Tag : Type 0} {Ans : Tag → Type 0} (body : (tag : Tag) → Program Tag Ans (Ans tag)) (same : Same (List Node)) (s : List ℕ) where
   unfoldable pub readAsking : ℕ → Part Tag Ans Log
-  readAsking zero tag st l = out (refused Deep) (opened 201 st) (asking 201 st l)
+  readAsking zero tag st l = out (refused Deep) (opened (suc deepestReading) st) (asking (suc deepestReading) st l)
   readAsking (suc d) tag st l = run s (λ used l. same used (l .nodes)) shutAsking (readAsking d) (body tag) (opened (deepestReading - d) st) (asking (deepestReading - d) st l)
 
   -- a whole reading, from an empty list of nodes
