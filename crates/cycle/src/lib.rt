@@ -22,7 +22,7 @@
 // a call takes ten lines, so that a reader which calls three others has over forty.
 
 ghost use mathlib.Core.Path.{_≡_};
-ghost use Prim.Native.Nat.{_≤_, _-_, _+_};
+ghost use Prim.Native.Nat.{_-_, _+_};
 ghost use lib.ListN.{length};
 ghost use Rattle.forms.specs.Begins.{parseForms};
 ghost use Rattle.forms.specs.declared.begins.ParseForm.the-variants.{Guard, Template, Name};

@@ -1,8 +1,7 @@
 // What closes a production, and the parts that open no other.
 ghost use mathlib.Core.Path.{_≡_};
 ghost use mathlib.Core.List.{List, [], _∷_};
-ghost use Prim.Native.Nat.{ℕ, _≤_, _-_};
-ghost use lib.ListN.{length};
+ghost use Prim.Native.Nat.{ℕ, _-_};
 ghost use lib.Dec.{eqb};
 ghost use Rattle.node.specs.Kind.{kindNumber, ParseResult, RttiBaseClassDescriptor};
 ghost use Rattle.grammar.specs.Table.{laid};

@@ -1,7 +1,6 @@
 // The head of a function's type: what stands before its return.
 ghost use mathlib.Core.Path.{_≡_};
 ghost use Prim.Native.Nat.{_≤_};
-ghost use lib.ListN.{length};
 ghost use Rattle.grammar.specs.Grammar.{funcType, memberFunction, plainFunction, memberPointer, isStatic};
 ghost use Rattle.shapes.specs.declared.symbols.SymbolShape.the-variants.{Function};
 ghost use Rattle.steps.specs.Does.{Classes, Leads};

@@ -1,8 +1,6 @@
 // The shape of a name.
 ghost use mathlib.Core.Path.{_≡_};
 ghost use mathlib.Core.Bool.{Bool};
-ghost use Prim.Native.Nat.{_≤_};
-ghost use lib.ListN.{length};
 ghost use Rattle.grammar.specs.Grammar.{unqualifiedBody, nestedBody, nestedOf, plainName, specialName, rttiTypeDescriptor, rttiBaseClassDescriptor};
 ghost use Rattle.forms.specs.declared.begins.NameForm.the-variants.{AnonymousId, Anonymous, Interface, Discriminator};
 ghost use Rattle.steps.specs.Does.{Leads};

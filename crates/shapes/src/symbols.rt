@@ -1,8 +1,7 @@
 // The shape of a symbol's own type, of its beginning, and of a guard's index.
 ghost use mathlib.Core.Path.{_≡_};
-ghost use Prim.Native.Nat.{_≤_, _<_};
+ghost use Prim.Native.Nat.{_<_};
 ghost use lib.Dec.{eqb};
-ghost use lib.ListN.{length};
 ghost use Rattle.grammar.specs.Grammar.{parseOf, symbolTypeBody, symbolTypeOf, encodedString, guardIndex, indexAndOne};
 ghost use Rattle.forms.specs.declared.begins.SymbolForm.the-variants.{String, VCallThunk};
 ghost use Rattle.forms.specs.Begins.{parseForms};

@@ -1,7 +1,6 @@
 // The shape of a type.
 ghost use mathlib.Core.Path.{_≡_};
 ghost use Prim.Native.Nat.{_≤_};
-ghost use lib.ListN.{length};
 ghost use Rattle.grammar.specs.Grammar.{varTypeBody, formType, letterType, plainType};
 ghost use Rattle.forms.specs.declared.types.TypeForm.the-variants.{Reclassed, MemberPointer};
 ghost use Rattle.forms.specs.declared.types.TypeLetter.the-variants.{Parameter};

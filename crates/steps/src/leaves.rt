@@ -1,8 +1,7 @@
 // The leaves at a state's place: what they say, and the state behind the bytes that they take.
 ghost use mathlib.Core.Path.{_≡_};
-ghost use Prim.Native.Nat.{_+_, _≤_, _<_};
+ghost use Prim.Native.Nat.{_+_, _<_};
 ghost use Rattle.steps.specs.declared.state.Value.the-variants.{Is};
-ghost use lib.ListN.{length};
 ghost use Rattle.scan.specs.Number.{readGuardNumber};
 ghost use Rattle.scan.specs.Name.{readMd5Name};
 ghost use Rattle.letters.specs.Classes.{readCallingConv, readFuncClass, readStorageClass, readQualifier, readStorageClassForReturn, readFuncQualifiers, readStringWidth, readGuardMarker};
