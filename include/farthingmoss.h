@@ -39,6 +39,7 @@
  *                                                             (*) farthingmoss_write and farthingmoss_name: always 0
  *
  * Bytes may be left over behind those consumed: a caller who minds compares the offset with the symbol's length.
+ * A number refused with 3 is consumed up to the byte that does not belong: in `?x@@3Y0B0@HA` the offset is 8.
  * Of several refusals the first in this order comes: 7, 1, 2; in reading, the first of 3, 4 and 5 that is met; then 6.
  * For 6 the counts are those of 0, but the text length is the buffer's: what the whole text takes is not told.
  *

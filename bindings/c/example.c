@@ -119,6 +119,8 @@ static void refused(void) {
     check_cells(0, 2 * CELLS, 0, "zeros in the place of the nodes counted");
     check_cells(2 * CELLS, NODES * CELLS + BEHIND, OLD_CELL, "cells behind the nodes counted");
     check_old_text_from(0, "no text of a refusal");
+    read_symbol("?x@@3Y0B0@HA", FARTHINGMOSS_DEEPEST, NODES * CELLS, ROOM);
+    check_report(FARTHINGMOSS_NO_DERIVATION, 8, 0, 0, 0, "a bad number, at the byte that does not belong");
     read_symbol("?x@@3HA", 2, NODES * CELLS, ROOM);
     check(report[0] == FARTHINGMOSS_TOO_DEEP, "a depth of 2");
     read_symbol("?x@@3HA", FARTHINGMOSS_DEEPEST, 5 * CELLS - 1, ROOM);

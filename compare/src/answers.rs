@@ -1,18 +1,16 @@
-//! What the crate answers to a symbol: the bytes consumed, or the offset of the refusal.
+//! What the crate answers to a symbol: the bytes consumed, or the refusal.
 use unchecked::ParseResult;
 
+use crate::fault::Fault;
 use crate::traps;
 
-pub type Answer = Result<usize, usize>;
-
-pub const DEEPER: &str = "deeper than 200";
-pub const ESCAPE: &str = "refused by the rule for `?$`";
+pub type Answer = Result<usize, Fault>;
 
 /// With the crate's checks, or the name of the trap.
-pub fn checked(symbol: &str) -> Result<Answer, String> {
+fn checked(symbol: &str) -> Result<Answer, String> {
     traps::caught(|| match checked::parse_consumed(symbol) {
         (Ok(_), consumed) => Ok(consumed),
-        (Err(error), _) => Err(error.offset().expect("parse errors have an offset")),
+        (Err(error), _) => Err(Fault::of(symbol.as_bytes(), error.offset(), &error.to_string())),
     })
 }
 
@@ -20,8 +18,23 @@ pub fn checked(symbol: &str) -> Result<Answer, String> {
 pub fn unchecked(symbol: &str) -> (Answer, Option<ParseResult<'_>>) {
     match unchecked::parse_consumed(symbol) {
         (Ok(tree), consumed) => (Ok(consumed), Some(tree)),
-        (Err(error), _) => (Err(error.offset().expect("parse errors have an offset")), None),
+        (Err(error), _) => {
+            (Err(Fault::of(symbol.as_bytes(), error.offset(), &error.to_string())), None)
+        }
     }
+}
+
+/// With its checks; where they trap, without them, and the trap.
+pub fn decided(symbol: &str) -> (Answer, Option<String>) {
+    match checked(symbol) {
+        Ok(answer) => (answer, None),
+        Err(trap) => (unchecked(symbol).0, Some(trap)),
+    }
+}
+
+/// How far the crate has come.
+pub fn end(answer: Answer) -> usize {
+    answer.unwrap_or_else(|fault| fault.offset)
 }
 
 /// Whether the refusal stands just behind a wrong letter of `?$` in a string, which the product
@@ -31,9 +44,6 @@ pub fn refuses_escape(symbol: &str, offset: usize) -> bool {
         return false;
     };
     let wrong = !matches!(symbol.as_bytes()[offset - 1], b'A'..=b'P');
-    let takes = |byte: u8| {
-        let (Ok(end) | Err(end)) = unchecked(&format!("{before}{}", char::from(byte))).0;
-        end == offset
-    };
+    let takes = |byte: u8| end(unchecked(&format!("{before}{}", char::from(byte))).0) == offset;
     wrong && (0..128).all(takes)
 }

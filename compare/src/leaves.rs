@@ -2,11 +2,12 @@
 //!
 //! The crate shows its leaves only through `parse`. So the bytes that a leaf is called on stand in
 //! a symbol, behind a prefix after which the crate reads this leaf. Where the product refuses, the
-//! crate must refuse there. Where it accepts, the crate must refuse the rest of the bytes where the
+//! crate must refuse there, or, for a bad number, at its first letter. Where it accepts, the crate must refuse the rest of the bytes where the
 //! reading after the leaf does, which shows how many bytes the leaf took; and the bytes taken with
 //! a tail that suits them must make a symbol in whose tree the leaf's value stands.
 mod cases;
 mod enums;
+mod fault;
 mod follow;
 mod forms;
 mod inputs;
@@ -17,8 +18,9 @@ mod tree;
 
 use std::process::ExitCode;
 
+use fault::{Fault, NUMBER};
 use product::Answer;
-use reference::Reading;
+use reference::{Error, Reading};
 use table::{Leaf, LEAVES};
 use tree::Seen;
 
@@ -31,6 +33,8 @@ struct Call<'a> {
     bytes: &'a [u8],
     answer: Answer,
     trapped: bool,
+    /// Refused at a number's wrong byte, by the crate at its first letter.
+    moved: bool,
 }
 
 impl Call<'_> {
@@ -51,11 +55,18 @@ impl Call<'_> {
         Ok(reading)
     }
 
-    fn crate_refuses(&mut self, offset: usize) -> Result<(), String> {
+    /// The crate must refuse the bytes; `place` tells where, by its fault.
+    fn crate_refuses(
+        &mut self,
+        offset: usize,
+        place: fn(&Fault) -> usize,
+    ) -> Result<Fault, String> {
         let symbol = self.symbol(self.bytes, "");
-        match self.read(&symbol)? {
-            Err(error) if error.offset() == Some(offset) => Ok(()),
-            reading => Err(format!("no refusal at {offset} in {}: {reading:?}", show(&symbol))),
+        let reading = self.read(&symbol)?;
+        let fault = |error: &Error| Fault::of(&symbol, error.offset(), &error.to_string());
+        match reading.as_ref().map_err(fault) {
+            Err(fault) if place(&fault) == offset => Ok(fault),
+            other => Err(format!("no refusal at {offset} in {}: {other:?}", show(&symbol))),
         }
     }
 
@@ -74,7 +85,7 @@ impl Call<'_> {
         }
         let (bytes, rest) = self.bytes.split_at(taken);
         if let Some(offset) = (self.leaf.stop)(&self.answer, rest) {
-            self.crate_refuses(self.at() + taken + offset)?;
+            self.crate_refuses(self.at() + taken + offset, |fault| fault.offset)?;
         }
         if !(self.leaf.has_value)(&self.answer) {
             return Ok(());
@@ -95,7 +106,10 @@ impl Call<'_> {
             return Err("a refusal has no value".to_string());
         }
         if self.leaf.refusal_shows {
-            return self.crate_refuses(self.at() + self.answer.taken);
+            let offset = self.at() + self.answer.taken;
+            let fault = self.crate_refuses(offset, |fault| fault.place)?;
+            self.moved = fault.offset != offset;
+            return Ok(());
         }
         if self.answer.taken != 0 {
             return Err("nothing is taken where there is no value".to_string());
@@ -124,6 +138,7 @@ fn show(bytes: &[u8]) -> impl std::fmt::Display + '_ {
 #[derive(Default)]
 struct Tally {
     equal: usize,
+    moved: usize,
     trapped: usize,
     outside: usize,
     different: usize,
@@ -132,19 +147,20 @@ struct Tally {
 impl Tally {
     fn add(&mut self, other: &Tally) {
         self.equal += other.equal;
+        self.moved += other.moved;
         self.trapped += other.trapped;
         self.outside += other.outside;
         self.different += other.different;
     }
 
     fn print(&self, what: &str) {
-        let Tally { equal, trapped, outside, different } = self;
+        let Tally { equal, moved, trapped, outside, different } = self;
         let different = match different {
             0 => String::new(),
             _ => format!(", {different} DIFFERENT"),
         };
         println!(
-            "{what}: {equal} calls equal, {trapped} traps of the checked crate, \
+            "{what}: {equal} calls equal, {moved} {NUMBER}, {trapped} traps of the checked crate, \
              {outside} outside the comparison{different}"
         );
     }
@@ -159,10 +175,11 @@ fn compare_leaf(leaf: &Leaf) -> Tally {
         }
         let symbol = [leaf.prefix.as_bytes(), &bytes].concat();
         let answer = product::answer(leaf.number, &symbol, leaf.prefix.len());
-        let mut call = Call { leaf, bytes: &bytes, answer, trapped: false };
+        let mut call = Call { leaf, bytes: &bytes, answer, trapped: false, moved: false };
         let compared = call.compare();
         tally.trapped += usize::from(call.trapped);
         match compared {
+            Ok(()) if call.moved => tally.moved += 1,
             Ok(()) => tally.equal += 1,
             Err(difference) => {
                 tally.different += 1;

@@ -13,6 +13,7 @@ mod bounds;
 mod damage;
 #[path = "list/document.rs"]
 mod document;
+mod fault;
 mod generate;
 #[path = "list/letters.rs"]
 mod letters;
@@ -89,7 +90,7 @@ impl Tally {
     /// Whether there is a difference.
     fn print(&mut self) -> bool {
         self.answers.print(&format!("list, {} lines", self.lines));
-        self.notes.print("list: lines on which the crate's checks trap, or it has no such rule");
+        self.notes.print("list: lines on which the crate's checks trap, or it has another rule");
         self.left_out.print("list: left out");
         self.different.print("list")
     }

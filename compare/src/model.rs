@@ -165,10 +165,8 @@ impl<'a> Model<'a> {
             value = (value << 4) + i32::from(letter - b'A');
             count += 1;
         }
-        if self.rest().get(count) != Some(&b'@') {
-            return Err(Refused);
-        }
-        self.at += count + 1;
+        self.at += count;
+        self.expect("@")?;
         Ok(value.wrapping_mul(sign))
     }
 

@@ -1,25 +1,27 @@
 //! A refused symbol, and what the crate says of it.
-use crate::answers::{self, DEEPER, ESCAPE};
+use crate::answers::{self, Answer};
+use crate::fault::NUMBER;
 use crate::limits::{DEEP, SYNTAX};
+
+const DEEPER: &str = "deeper than 200";
+const ESCAPE: &str = "refused by the rule for `?$`";
 
 /// How the crate stands to a refusal.
 pub enum Refusal {
-    /// It refuses there, too; its checks may trap before that.
-    Same(Option<String>),
-    /// It has no such rule.
+    /// It refuses there, too.
+    Same,
+    /// It has no such rule, or tells another offset.
     LeftOut(&'static str),
     Different(String),
 }
 
-pub fn compare(symbol: &str, number: u64, offset: usize) -> Refusal {
-    let (theirs, trap) = match answers::checked(symbol) {
-        Ok(theirs) => (theirs, None),
-        Err(trap) => (answers::unchecked(symbol).0, Some(trap)),
-    };
+/// The product refuses with this number at this offset, and the crate answers so.
+pub fn judge(symbol: &str, (number, offset): (u64, usize), theirs: Answer) -> Refusal {
     match (number, theirs) {
-        (SYNTAX, Err(there)) if there == offset => Refusal::Same(trap),
+        (SYNTAX, Err(fault)) if [fault.offset, fault.place] == [offset; 2] => Refusal::Same,
+        (SYNTAX, Err(fault)) if fault.place == offset => Refusal::LeftOut(NUMBER),
         (SYNTAX, _) if answers::refuses_escape(symbol, offset) => Refusal::LeftOut(ESCAPE),
-        (DEEP, Ok(end) | Err(end)) if offset <= end => Refusal::LeftOut(DEEPER),
-        _ => Refusal::Different(format!("refused with {number} at {offset}, the crate {theirs:?}")),
+        (DEEP, theirs) if offset <= answers::end(theirs) => Refusal::LeftOut(DEEPER),
+        _ => Refusal::Different(format!("{number} at {offset}, the crate {theirs:?}")),
     }
 }

@@ -12,6 +12,7 @@ mod answers;
 mod damage;
 mod exhaustive;
 mod expected;
+mod fault;
 mod flags;
 mod generate;
 mod limits;
@@ -116,8 +117,9 @@ impl Comparison {
 
     /// Whether the crate refuses the symbol there, too.
     fn compare_offset(&mut self, symbol: &str, reading: Report) {
-        match refusals::compare(symbol, reading.number, reading.offset) {
-            Refusal::Same(trap) => {
+        let (theirs, trap) = answers::decided(symbol);
+        match refusals::judge(symbol, (reading.number, reading.offset), theirs) {
+            Refusal::Same => {
                 self.tally.refusals += 1;
                 trap.into_iter().for_each(|trap| self.tally.traps.add(trap));
             }

@@ -1,10 +1,11 @@
 //! One symbol, read by the product, by the crate and by the plain model: how they compare.
 use unchecked::ParseResult;
 
-use crate::answers::{self, Answer, DEEPER, ESCAPE};
-use crate::limits::{ACCEPTED, CELLS, DEEP, DEEPEST, MOST_NODES, SYNTAX};
+use crate::answers::{self, Answer};
+use crate::limits::{ACCEPTED, CELLS, DEEPEST, MOST_NODES};
 use crate::model::Demands;
 use crate::reading::{self, Reading};
+use crate::refusals::{self, Refusal};
 use crate::shape::Shape;
 
 /// How the readings of a symbol compare.
@@ -44,10 +45,10 @@ type Decision<'a> = (Answer, Option<ParseResult<'a>>, Option<String>);
 /// An error where the crate's two builds answer differently.
 fn decided(symbol: &str) -> Result<Decision<'_>, String> {
     let (answer, tree) = answers::unchecked(symbol);
-    match answers::checked(symbol) {
-        Ok(same) if same == answer => Ok((answer, tree, None)),
-        Ok(other) => Err(format!("the crate {answer:?}, with its checks {other:?}")),
-        Err(trap) => Ok((answer, tree, Some(trap))),
+    let (decided, trap) = answers::decided(symbol);
+    match decided == answer {
+        true => Ok((answer, tree, trap)),
+        false => Err(format!("the crate {answer:?}, with its checks {decided:?}")),
     }
 }
 
@@ -73,10 +74,11 @@ pub fn compare(symbol: &str, table: &mut [u32]) -> (Verdict, Option<String>) {
                 false => Verdict::Different(format!("{ours:?}, but not the tree {tree:?}")),
             }
         }
-        (SYNTAX, Err(offset), _) if offset == ours.offset => Verdict::Refused,
-        (DEEP, Ok(end) | Err(end), _) if ours.offset <= end => Verdict::LeftOut(DEEPER),
-        (SYNTAX, ..) if answers::refuses_escape(symbol, ours.offset) => Verdict::LeftOut(ESCAPE),
-        _ => Verdict::Different(format!("{:?}, the crate {theirs:?}", ours.answer())),
+        (_, theirs, _) => match refusals::judge(symbol, ours.answer(), theirs) {
+            Refusal::Same => Verdict::Refused,
+            Refusal::LeftOut(reason) => Verdict::LeftOut(reason),
+            Refusal::Different(difference) => Verdict::Different(difference),
+        },
     };
     (verdict, trap)
 }

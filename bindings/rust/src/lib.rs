@@ -113,7 +113,8 @@ pub enum Error {
     NoSymbol,
     /// 2: the first byte of 128 or more stands here. Nothing is changed.
     NotAscii(usize),
-    /// 3: not a symbol; its reading stopped here. The nodes counted by then are zeros.
+    /// 3: not a symbol; its reading stopped here, in a bad number at the byte that does not belong. The nodes counted
+    /// by then are zeros.
     NoDerivation(usize),
     /// 4: deeper than the depth lent. The nodes counted by then are zeros; nothing from [`write`].
     TooDeep(usize),

@@ -66,6 +66,14 @@ fn a_refused_reading_leaves_zeros_and_no_text() {
 }
 
 #[test]
+fn a_bad_number_is_refused_at_the_byte_that_does_not_belong() {
+    let (mut table, mut text) = buffers(64 * node_cells(), 256);
+    let mut refused = |symbol: &[u8]| read(symbol, 0, DEEPEST, &mut table, &mut text);
+    assert_eq!(refused(b"?x@@3Y0B0@HA"), Err(Error::NoDerivation(8)));
+    assert_eq!(refused(b"?x@@3Y0B"), Err(Error::NoDerivation(8)));
+}
+
+#[test]
 fn refusals_before_reading_change_nothing_and_come_in_order() {
     let (mut table, mut text) = buffers(64 * node_cells(), 256);
     let mut refusal = |symbol: &[u8], flags, depth| {

@@ -6,7 +6,7 @@ pub const EXAMPLE: &[&[u8]] = &[b"?x@@3HA", b"", &[195, 169]];
 
 /// Numbers that the scope lists, at each place where a number is read.
 const NUMBERS: &str =
-    "0 9 ?0 @ ?@ BA@ ?BA@ PPPPPPPP@ BAAAAAAAA@ ?IAAAAAAA@ IAAAAAAA@ HPPPPPPP@ B0@ A BQ@";
+    "0 9 ?0 @ ?@ BA@ ?BA@ PPPPPPPP@ BAAAAAAAA@ ?IAAAAAAA@ IAAAAAAA@ HPPPPPPP@ B0@ A BQ@ ?B0@ ?BQ@";
 const NUMBER_PLACES: &[(&str, &str)] = &[
     ("??$f@$0", "@@YAXXZ"),
     ("??$f@$D", "@@YAXXZ"),
@@ -15,13 +15,25 @@ const NUMBER_PLACES: &[(&str, &str)] = &[
     ("?x@@3Y0", "HA"),
     ("?x@@3Y", "12HA"),
     ("?f@c@@G", "AEXXZ"),
+    ("?x@@3$1?f@c@@G", "AXXZA"),
     ("??_9c@@$B", "AE"),
     ("??_R1", "A@A@A@c@@8"),
+    ("??_R1A@", "A@A@c@@8"),
+    ("??_R1A@A@", "A@c@@8"),
+    ("??_R1A@A@A@", "c@@8"),
     ("??_Bx@@5", ""),
     ("??_C@_0", "A@abc"),
     ("??_C@_01", "ab"),
     ("?$f@$0", ""),
 ];
+
+/// The smallest symbol for each reader of a number that has a wrong byte behind a letter, or no more
+/// bytes. Then those whose offset is the crate's: no letter before the wrong byte; the number is bad
+/// for its value; the other kinds of digits.
+const BAD_NUMBERS: &str = "
+??_B@5A ?@@_0A ?@@_00A ??_R1A ??_R10A ??_R100A ??_R1000A ?@@GA ?@@3$1?@@GA0 ?@@$BA0 ?@@3$0A ?@@3$DA
+?@@3?A ?@@3YA ?@@3Y0A ?@?B ?@@3$0?BQ@ ?@@3$0BQ@
+?@@3$0Q ?@@3$0 ?@@3$0? ?@@3$0?Q ??_B@5?0 ?@@3Y@ ?@@3Y?0 ?$TSS1A ??@0123456789g";
 
 const TRIED: &str = "
 ??@0123456789abcdefABCDEF012345678@ ??@0123456789abcdefABCDEF0123456789@
@@ -110,6 +122,7 @@ pub fn symbols() -> Vec<Vec<u8>> {
     let mut symbols: Vec<_> = words(TRIED).map(|word| word.as_bytes().to_vec()).collect();
     symbols.extend((1..CUT.len()).map(|end| CUT.as_bytes()[..end].to_vec()));
     symbols.extend(numbers());
+    symbols.extend(words(BAD_NUMBERS).map(|word| word.as_bytes().to_vec()));
     symbols.extend(words(PRODUCTIONS).map(|word| word.as_bytes().to_vec()));
     symbols
 }

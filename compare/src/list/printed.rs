@@ -1,4 +1,5 @@
 //! What the program `undname` should print for a line, by the crate and the plain model.
+use crate::answers;
 use crate::limits::{ACCEPTED, DEEPEST, LONGEST, SYNTAX};
 use crate::model::Demands;
 use crate::refusals::{self, Refusal};
@@ -38,11 +39,14 @@ pub fn printed(line: &[u8]) -> Result<Printed, String> {
     match number {
         ACCEPTED | SYNTAX if demands.too_heavy() => Err("too heavy for the crate".to_string()),
         ACCEPTED => accepted(symbol, offset),
-        SYNTAX => match refusals::compare(symbol, number, offset) {
-            Refusal::Different(difference) => Err(difference),
-            Refusal::Same(trap) => Ok(refused(number, offset, trap)),
-            Refusal::LeftOut(rule) => Ok(refused(number, offset, Some(rule.to_string()))),
-        },
+        SYNTAX => {
+            let (theirs, trap) = answers::decided(symbol);
+            match refusals::judge(symbol, (number, offset), theirs) {
+                Refusal::Different(difference) => Err(difference),
+                Refusal::Same => Ok(refused(number, offset, trap)),
+                Refusal::LeftOut(rule) => Ok(refused(number, offset, Some(rule.to_string()))),
+            }
+        }
         _ => Ok(refused(number, offset, None)),
     }
 }

@@ -6,7 +6,7 @@ use mathlib.Core.List.{List, [], _∷_, map}
 use lib.Dec.{eqb}
 use Rattle.scan.specs.Bytes.{bytes}
 use Rattle.scan.specs.Cursor.{readDigit}
-use Rattle.scan.specs.Number.{readNumber, magnitude, readUnsigned}
+use Rattle.scan.specs.Number.{letters, magnitude, readNumber, readUnsigned}
 use Rattle.scan.specs.Name.{stringFrom}
 use Rattle.letters.specs.Classes.{readCallingConv, readStorageClass, readStorageClassForReturn, readGuardMarker}
 use Rattle.operators.specs.Operators.{readOperator}
@@ -48,11 +48,14 @@ cases =
     ∷ (9, 99, "?f@@YA@XZ", (refused Syntax, 7, 2))
     ∷ (9, 99, "??_B@4IB", (refused Syntax, 5, 2))
     ∷ (3, 9, "?@@3A$2", (refused Syntax, 7, 2))
+    -- a bad number: at the byte that does not belong, or at the end
+    ∷ (9, 99, "??_B@5A", (refused Syntax, 7, 2))
+    ∷ (9, 99, "??_B@5?BQ@", (refused Syntax, 8, 2))
     -- no room: a list's entry, then its place
     ∷ (9, 3, "?f@@YAXXZ", (refused Full, 8, 3))
     ∷ (9, 4, "?f@@YAXXZ", (refused Full, 8, 4))
     ∷ []
 
 worked : map (λ c. within (c .0) (c .1) (c .2)) cases ≡ map (λ c. c .3) cases
-unfolding readAsking shutAsking run body scopeFrom scope listEnd newParam paramsFrom params funcParams templateName plainName specialName unqualifiedBody nameBody pointee letterType plainType varTypeBody symbolTypeOf symbolTypeBody indexAndOne guardIndex parseOf readDigit readNumber magnitude readUnsigned stringFrom readCallingConv readStorageClass readStorageClassForReturn readGuardMarker readOperator typeReference
+unfolding readAsking shutAsking run body scopeFrom scope listEnd newParam paramsFrom params funcParams templateName plainName specialName unqualifiedBody nameBody pointee letterType plainType varTypeBody symbolTypeOf symbolTypeBody indexAndOne guardIndex parseOf readDigit readNumber magnitude letters readUnsigned stringFrom readCallingConv readStorageClass readStorageClassForReturn readGuardMarker readOperator typeReference
 worked = refl

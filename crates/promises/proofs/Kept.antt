@@ -11,6 +11,7 @@ use Rattle.promises.proofs.OneAnswer as one
 use Rattle.promises.proofs.Told as told
 use Rattle.promises.proofs.Flags as flags
 use Rattle.promises.proofs.Gated as gated
+use Rattle.promises.proofs.Digits as digits
 use Rattle.promises.proofs.Memos as memos
 
 pub kept : Promises
@@ -31,6 +32,7 @@ kept = record {
   one-named = one.one-named;
   one-part = one.one-part;
   number-cases = number-cases;
+  bad-digits = digits.bad-digits;
   answered-leaves = left.answered-leaves;
   syntax-leaves = left.syntax-leaves;
   limit-leaves = left.limit-leaves;

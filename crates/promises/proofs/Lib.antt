@@ -11,4 +11,5 @@ pub mod Told
 pub mod Flags
 pub mod Gated
 pub mod Memos
+pub mod Digits
 pub mod Kept

@@ -1,5 +1,5 @@
--- What the public calls promise: each sentence of the three demands, and of the scope's "Left behind" and "Nothing left to choose", as a statement: a type, with its words
--- above it. `Promises`, at the end, is all of them, and a function of src/lib.rt is proved only where each has a proof.
+-- What the public calls promise: each sentence of the three demands, of the scope's "Left behind" and "Nothing left to choose", and of later requests, as a statement: a type,
+-- with its words above it. `Promises`, at the end, is all of them, and a function of src/lib.rt is proved only where each has a proof.
 -- `f` is the flag word, `depth` the depth budget, `s` the symbol, `t` the table, `b` the text buffer and `room` its length; a prime marks a second call's.
 -- Assumes nothing: these are definitions.
 use Prim.Native.Nat.{ℕ, suc, _+_, _-_, _*_, _/_, _%_, _^_, _≤_, _<_}
@@ -10,8 +10,10 @@ use mathlib.Core.List.{List, [], _∷_, _++_}
 use mathlib.Core.Logic.{_↔_, _⊎_}
 use lib.Dec.{eqb}
 use lib.ListN.{length, take, drop, getD, replicate}
-use Rattle.scan.specs.Bytes.{isDigit}
+use Rattle.scan.specs.Bytes.{bytes, isDigit}
+use Rattle.scan.specs.Number.{readNumber}
 use Rattle.scan.specs.Cases.{NumberCases}
+use Rattle.scan.specs.declared.cursor.Leaf.the-variants.{Value, Bad}
 use Rattle.forms.specs.Types.{typeReference}
 use Rattle.forms.specs.declared.types.Reference.the-variants.{Stored}
 use Rattle.node.specs.Cells.{nodes}
@@ -207,6 +209,14 @@ abbrev pub OnePart : Type 0
 OnePart = (s t : List ℕ) (n : ℕ) (p₁ t₁ p₂ t₂ : List ℕ) → Parts s t n p₁ t₁ → Parts s t n p₂ t₂ → (p₁ ≡ p₂) × (t₁ ≡ t₂)
 
 -- The numbers that the scope marks to be proved: `NumberCases`, one table and one statement, beside the rule (crates/scan/specs/Cases.antt).
+
+-- M-113. A bad number is refused at the place of the first byte that does not belong, or at the end if it runs off it: with `@` at that place the bytes before it are a number,
+-- and with the byte that stands there no bytes behind it make one. (`r` is what remains of the symbol where the number is read.)
+abbrev pub BadDigits : Type 0
+BadDigits =
+    (r : List ℕ) (n : ℕ) → readNumber r ≡ Bad n →
+    ((v : ℕ) × (readNumber (take n r ++ bytes "@") ≡ Value v (n + 1)))
+    × ((n ≡ length r) ⊎ ((n < length r) × ((t : List ℕ) → readNumber (take (n + 1) r ++ t) ≡ Bad n)))
 
 -- LEFT BEHIND
 
@@ -445,6 +455,7 @@ pub record Promises : Type 0 where
   pub one-named : OneNamed
   pub one-part : OnePart
   pub number-cases : NumberCases
+  pub bad-digits : BadDigits
   pub answered-leaves : AnsweredLeaves
   pub syntax-leaves : SyntaxLeaves
   pub limit-leaves : LimitLeaves

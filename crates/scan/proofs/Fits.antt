@@ -23,22 +23,22 @@ pub more-fits : (less most : ℕ) (x : Leaf) → less ≤ most → Fits less x �
 more-fits less most (Value v n) h f = omega arith
 more-fits less most (Bad n) h f = omega arith
 
--- numbers: n bytes are taken already, among them the sign
-letters-fits : (neg : Bool) (n v : ℕ) (r : List ℕ) → sign neg ≤ n → Fits (n + length r) (letters neg n v r)
+-- numbers: n bytes are taken already
+letters-fits : (neg : Bool) (n v : ℕ) (r : List ℕ) → Fits (n + length r) (letters neg n v r)
 unfolding letters
-letters-fits neg n v [] h = omega arith
-letters-fits neg n v (c ∷ r) h =
+letters-fits neg n v [] = omega arith
+letters-fits neg n v (c ∷ r) =
     pick-fits (n + suc (length r)) (is "@" c) (Value _ (n + 1)) _ (omega arith)
-    (pick-fits (n + suc (length r)) (between "A" "P" c) _ (Bad (sign neg))
+    (pick-fits (n + suc (length r)) (between "A" "P" c) _ (Bad n)
     (more-fits (n + 1 + length r) (n + suc (length r)) (letters neg (n + 1) ((v * 16 + (c - code "A")) % 2 ^ 32) r) (omega arith)
-    (letters-fits neg (n + 1) ((v * 16 + (c - code "A")) % 2 ^ 32) r (omega arith))) (omega arith))
+    (letters-fits neg (n + 1) ((v * 16 + (c - code "A")) % 2 ^ 32) r)) (omega arith))
 
 magnitude-fits : (neg : Bool) (r : List ℕ) → Fits (sign neg + length r) (magnitude neg r)
 unfolding magnitude
 magnitude-fits neg [] = omega arith
 magnitude-fits neg (c ∷ r) =
     pick-fits (sign neg + suc (length r)) (isDigit c) (Value _ (sign neg + 1)) (letters neg (sign neg) 0 (c ∷ r)) (omega arith)
-    (letters-fits neg (sign neg) 0 (c ∷ r) (omega arith))
+    (letters-fits neg (sign neg) 0 (c ∷ r))
 
 pub number-fits : (r : List ℕ) → Fits (length r) (readNumber r)
 unfolding readNumber

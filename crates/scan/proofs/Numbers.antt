@@ -11,7 +11,7 @@ use Rattle.scan.specs.declared.cursor.Leaf.the-variants.{Value, Bad}
 use Rattle.scan.proofs.Laws.{split, past}
 
 module _ (neg : Bool) (s : List ℕ) (i n v : ℕ) where
-  pub letters-end : length s ≤ i → letters neg n v (drop i s) ≡ Bad (sign neg)
+  pub letters-end : length s ≤ i → letters neg n v (drop i s) ≡ Bad n
   unfolding letters
   letters-end h = rw (past s i h)
 
@@ -24,11 +24,11 @@ module _ (neg : Bool) (s : List ℕ) (i n v : ℕ) where
   unfolding letters
   letters-more h l u = rw (split s i h, ne-eqb (getD s i 0) 64 (λ e. omega arith), le-leb _ _ l, le-leb _ _ u)
 
-  pub letters-low : i < length s → (getD s i 0 ≡ 64 → ⊥) → getD s i 0 < 65 → letters neg n v (drop i s) ≡ Bad (sign neg)
+  pub letters-low : i < length s → (getD s i 0 ≡ 64 → ⊥) → getD s i 0 < 65 → letters neg n v (drop i s) ≡ Bad n
   unfolding letters
   letters-low h off l = rw (split s i h, ne-eqb _ 64 off, lt-leb _ _ l)
 
-  pub letters-high : i < length s → 80 < getD s i 0 → letters neg n v (drop i s) ≡ Bad (sign neg)
+  pub letters-high : i < length s → 80 < getD s i 0 → letters neg n v (drop i s) ≡ Bad n
   unfolding letters
   letters-high h u = let l : 65 ≤ getD s i 0 = omega arith in rw (split s i h, ne-eqb (getD s i 0) 64 (λ e. omega arith), le-leb _ _ l, lt-leb _ _ u)
 

@@ -30,7 +30,7 @@ abbrev pub numbers : List (String × Outcome)
 numbers =
     ("0", value (pos 1)) ∷ ("9", value (pos 10)) ∷ ("?0", value (negsuc 0)) ∷ ("@", value (pos 0)) ∷ ("?@", value (pos 0))
     ∷ ("BA@", value (pos 16)) ∷ ("?BA@", value (negsuc 15)) ∷ ("PPPPPPPP@", value (negsuc 0)) ∷ ("BAAAAAAAA@", value (pos 0))
-    ∷ ("?IAAAAAAA@", value (negsuc 2147483647)) ∷ ("B0@", refused 0) ∷ ("A", refused 0) ∷ []
+    ∷ ("?IAAAAAAA@", value (negsuc 2147483647)) ∷ ("B0@", refused 1) ∷ ("A", refused 1) ∷ []
 
 -- the table is what the written rule gives
 abbrev pub NumberCases : Type 0

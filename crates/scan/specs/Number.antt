@@ -16,12 +16,13 @@ signed neg v = pick neg ((2 ^ 32 - v) % 2 ^ 32) v
 abbrev pub sign : Bool → ℕ
 sign neg = pick neg 1 0
 
--- letters A to P up to `@`: n bytes are taken and the value is v. High bits are dropped. A bad number takes none of its letters
+-- letters A to P up to `@`: n bytes are taken and the value is v. High bits are dropped.
+-- A bad number is refused at the byte that does not belong, or at the end; by the crate at its first letter.
 unfoldable pub letters : Bool → ℕ → ℕ → List ℕ → Leaf
-letters neg n v [] = Bad (sign neg)
+letters neg n v [] = Bad n
 letters neg n v (c ∷ r) =
     pick (is "@" c) (Value (signed neg v) (n + 1))
-    (pick (between "A" "P" c) (letters neg (n + 1) ((v * 16 + (c - code "A")) % 2 ^ 32) r) (Bad (sign neg)))
+    (pick (between "A" "P" c) (letters neg (n + 1) ((v * 16 + (c - code "A")) % 2 ^ 32) r) (Bad n))
 
 -- a digit d gives d + 1
 unfoldable pub magnitude : Bool → List ℕ → Leaf

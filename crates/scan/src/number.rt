@@ -31,23 +31,23 @@ fn sign_len(neg: bool) -> usize
     if neg { 1 } else { 0 }
 }
 
-// The letters A to P up to `@`.
+// The letters A to P up to `@`. A bad number is refused at the byte that does not belong.
 fn read_letters(s: &[u8], from: usize, neg: bool) -> Leaf
     requires { ⌜ (sign neg ≤ from) × (from ≤ length (now s)) ⌝ }
     ensures { λ r. ⌜ r ≡ letters neg (sign neg) 0 (drop from (now (s .entry))) ⌝ }
 {
     let before = sign_len(neg);
     let mut v: u32 = 0;
-    let mut n = before;
+    let mut n: usize = 0;
     let mut i = from;
     loop {
         if s.len() <= i {
-            break Leaf::Bad(before);
+            break Leaf::Bad(before + n);
         }
         let c = s[i];
         match c {
             b'@' => {
-                break Leaf::Value(signed_bits(neg, v), n + 1);
+                break Leaf::Value(signed_bits(neg, v), before + n + 1);
             }
             b'A'..=b'P' => {
                 v = shifted(v, 16, (c - b'A') as u32);
@@ -55,7 +55,7 @@ fn read_letters(s: &[u8], from: usize, neg: bool) -> Leaf
                 i += 1;
             }
             _ => {
-                break Leaf::Bad(before);
+                break Leaf::Bad(before + n);
             }
         }
     }
