@@ -2,9 +2,10 @@
 //!
 //! The crate shows its leaves only through `parse`. So the bytes that a leaf is called on stand in
 //! a symbol, behind a prefix after which the crate reads this leaf. Where the product refuses, the
-//! crate must refuse there, or, for a bad number, at its first letter. Where it accepts, the crate must refuse the rest of the bytes where the
-//! reading after the leaf does, which shows how many bytes the leaf took; and the bytes taken with
-//! a tail that suits them must make a symbol in whose tree the leaf's value stands.
+//! crate must refuse there, or, for a bad number, at its first letter. Where it accepts, the crate
+//! must refuse the rest of the bytes where the reading after the leaf does, which shows how many
+//! bytes the leaf took; and the bytes taken with a tail that suits them must make a symbol in whose
+//! tree the leaf's value stands.
 mod cases;
 mod enums;
 mod fault;
@@ -155,12 +156,13 @@ impl Tally {
 
     fn print(&self, what: &str) {
         let Tally { equal, moved, trapped, outside, different } = self;
-        let different = match different {
+        let some = |count: &usize, what| match count {
             0 => String::new(),
-            _ => format!(", {different} DIFFERENT"),
+            _ => format!(", {count} {what}"),
         };
+        let (moved, different) = (some(moved, NUMBER), some(different, "DIFFERENT"));
         println!(
-            "{what}: {equal} calls equal, {moved} {NUMBER}, {trapped} traps of the checked crate, \
+            "{what}: {equal} calls equal{moved}, {trapped} traps of the checked crate, \
              {outside} outside the comparison{different}"
         );
     }

@@ -27,12 +27,12 @@ const NUMBER_PLACES: &[(&str, &str)] = &[
     ("?$f@$0", ""),
 ];
 
-/// The smallest symbol for each reader of a number that has a wrong byte behind a letter, or no more
+/// For each reader of a number a small symbol that has a wrong byte behind a letter, or no more
 /// bytes. Then those whose offset is the crate's: no letter before the wrong byte; the number is bad
 /// for its value; the other kinds of digits.
 const BAD_NUMBERS: &str = "
-??_B@5A ?@@_0A ?@@_00A ??_R1A ??_R10A ??_R100A ??_R1000A ?@@GA ?@@3$1?@@GA0 ?@@$BA0 ?@@3$0A ?@@3$DA
-?@@3?A ?@@3YA ?@@3Y0A ?@?B ?@@3$0?BQ@ ?@@3$0BQ@
+??_B@5A ?@@_0A ?@@_00A ??_R1A ??_R10A ??_R100A ??_R1000A ?@@GA ?@@3$1?@@GA ?@@3$1?@@GA0 ?@@$BA ?@@$BA0
+?@@3$0A ?@@3$DA ?@@3?A ?@@3YA ?@@3Y0A ?@?B ?@@3$0?BQ@ ?@@3$0BQ@
 ?@@3$0Q ?@@3$0 ?@@3$0? ?@@3$0?Q ??_B@5?0 ?@@3Y@ ?@@3Y?0 ?$TSS1A ??@0123456789g";
 
 const TRIED: &str = "
