@@ -6,7 +6,8 @@
 //! The list has the scope's own symbols and its example, each production, each letter at each place
 //! where one decides, the bounds of depth, nodes, room, length and bytes, real symbols of CORPORA
 //! and symbols made from the grammar, half of them damaged. The crate with its checks decides; where
-//! it traps, the crate without them; the plain model gives the refusals that the crate does not know.
+//! it traps, the crate without them; the plain model gives the refusals that the crate does not know,
+//! and the offsets of bad numbers.
 mod answers;
 #[path = "list/bounds.rs"]
 mod bounds;

@@ -1,4 +1,4 @@
--- The numbers that the scope marks to be proved, as one table and one statement. Assumes nothing.
+-- The numbers that the scope marks to be proved, as one table and one statement; the two bad ones have the offset of the later request M-113. Assumes nothing.
 use Prim.Native.Nat.{ℕ}
 use Prim.Native.String.{String}
 use mathlib.Core.Path.{_≡_, refl}
