@@ -121,6 +121,8 @@ static void refused(void) {
     check_old_text_from(0, "no text of a refusal");
     read_symbol("?x@@3Y0B0@HA", FARTHINGMOSS_DEEPEST, NODES * CELLS, ROOM);
     check_report(FARTHINGMOSS_NO_DERIVATION, 8, 0, 0, 0, "a bad number, at the byte that does not belong");
+    read_symbol("?@?A0x@@", FARTHINGMOSS_DEEPEST, NODES * CELLS, ROOM);
+    check_report(FARTHINGMOSS_NO_DERIVATION, 6, 0, 0, 0, "an anonymous namespace whose id has no digit");
     read_symbol("?x@@3HA", 2, NODES * CELLS, ROOM);
     check(report[0] == FARTHINGMOSS_TOO_DEEP, "a depth of 2");
     read_symbol("?x@@3HA", FARTHINGMOSS_DEEPEST, 5 * CELLS - 1, ROOM);

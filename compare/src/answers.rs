@@ -37,6 +37,11 @@ pub fn end(answer: Answer) -> usize {
     answer.unwrap_or_else(|fault| fault.offset)
 }
 
+/// How far it comes in a symbol that ends with this byte.
+fn end_behind(before: &str, byte: u8) -> usize {
+    end(unchecked(&format!("{before}{}", char::from(byte))).0)
+}
+
 /// Whether the refusal stands just behind a wrong letter of `?$` in a string, which the product
 /// refuses and the crate does not. Nowhere else does the crate take any byte at all.
 pub fn refuses_escape(symbol: &str, offset: usize) -> bool {
@@ -44,6 +49,18 @@ pub fn refuses_escape(symbol: &str, offset: usize) -> bool {
         return false;
     };
     let wrong = !matches!(symbol.as_bytes()[offset - 1], b'A'..=b'P');
-    let takes = |byte: u8| end(unchecked(&format!("{before}{}", char::from(byte))).0) == offset;
-    wrong && (0..128).all(takes)
+    wrong && (0..128).all(|byte| end_behind(before, byte) == offset)
+}
+
+/// The first and the last of each range of hex digits, and the bytes beside them; `@` is one.
+const AROUND_HEX: &[u8] = b"/09:@AFG`afg";
+
+/// Whether the refusal stands between the `?A0x` and the `@` of a namespace, where the product asks
+/// for a digit and the crate reads on. Only there, behind these bytes, it takes hex digits, `@` and
+/// no other byte.
+pub fn refuses_id(symbol: &str, offset: usize) -> bool {
+    let (before, behind) = symbol.split_at(offset);
+    let takes = |byte: u8| usize::from(byte == b'@' || byte.is_ascii_hexdigit());
+    let as_there = |byte: &u8| end_behind(before, *byte) == offset + takes(*byte);
+    before.ends_with("?A0x") && behind.starts_with('@') && AROUND_HEX.iter().all(as_there)
 }

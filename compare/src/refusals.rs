@@ -5,6 +5,7 @@ use crate::limits::{DEEP, SYNTAX};
 
 const DEEPER: &str = "deeper than 200";
 const ESCAPE: &str = "refused by the rule for `?$`";
+const NO_DIGIT: &str = "refused behind a namespace's `?A0x` with no digit";
 
 /// How the crate stands to a refusal.
 pub enum Refusal {
@@ -13,6 +14,12 @@ pub enum Refusal {
     /// It has no such rule, or tells another offset.
     LeftOut(&'static str),
     Different(String),
+}
+
+/// Why the crate is not asked about a symbol that is refused so: it reads on, and what it copies
+/// behind that offset the model does not count.
+pub fn unasked(symbol: &str, (number, offset): (u64, usize)) -> Option<&'static str> {
+    (number == SYNTAX && answers::refuses_id(symbol, offset)).then_some(NO_DIGIT)
 }
 
 /// The product refuses with this number at this offset, and the crate answers so.

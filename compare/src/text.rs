@@ -117,8 +117,12 @@ impl Comparison {
 
     /// Whether the crate refuses the symbol there, too.
     fn compare_offset(&mut self, symbol: &str, reading: Report) {
+        let refusal = (reading.number, reading.offset);
+        if let Some(reason) = refusals::unasked(symbol, refusal) {
+            return self.tally.left_out.add(reason);
+        }
         let (theirs, trap) = answers::decided(symbol);
-        match refusals::judge(symbol, (reading.number, reading.offset), theirs) {
+        match refusals::judge(symbol, refusal, theirs) {
             Refusal::Same => {
                 self.tally.refusals += 1;
                 trap.into_iter().for_each(|trap| self.tally.traps.add(trap));

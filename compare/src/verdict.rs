@@ -63,6 +63,9 @@ pub fn compare(symbol: &str, table: &mut [u32]) -> (Verdict, Option<String>) {
     if demands.too_heavy() {
         return (Verdict::LeftOut("too heavy for the crate"), None);
     }
+    if let Some(reason) = refusals::unasked(symbol, ours.answer()) {
+        return (Verdict::LeftOut(reason), None);
+    }
     let (theirs, tree, trap) = match decided(symbol) {
         Ok(decision) => decision,
         Err(difference) => return (Verdict::Different(difference), None),

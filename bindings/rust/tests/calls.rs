@@ -74,6 +74,18 @@ fn a_bad_number_is_refused_at_the_byte_that_does_not_belong() {
 }
 
 #[test]
+fn an_anonymous_namespace_has_a_digit_in_its_id_or_no_id() {
+    let (mut table, mut text) = buffers(64 * node_cells(), 256);
+    let mut consumed = |symbol: &[u8]| {
+        let answer = read(symbol, 0, DEEPEST, &mut table, &mut text);
+        answer.map(|counts| counts.consumed)
+    };
+    assert_eq!(consumed(b"?@?A0x@@"), Err(Error::NoDerivation(6)));
+    assert_eq!(consumed(b"?@?A0x0@@"), Ok(9));
+    assert_eq!(consumed(b"?@?A@@"), Ok(6));
+}
+
+#[test]
 fn refusals_before_reading_change_nothing_and_come_in_order() {
     let (mut table, mut text) = buffers(64 * node_cells(), 256);
     let mut refusal = |symbol: &[u8], flags, depth| {

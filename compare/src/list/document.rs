@@ -35,6 +35,15 @@ const BAD_NUMBERS: &str = "
 ?@@3$0A ?@@3$DA ?@@3?A ?@@3YA ?@@3Y0A ?@?B ?@@3$0?BQ@ ?@@3$0BQ@
 ?@@3$0Q ?@@3$0 ?@@3$0? ?@@3$0?Q ??_B@5?0 ?@@3Y@ ?@@3Y?0 ?$TSS1A ??@0123456789g";
 
+/// An anonymous namespace's id has a digit, wherever the namespace stands. Then names and a string
+/// that have the same bytes, and ids that a digit tells apart.
+const NAMESPACES: &str = "
+?@?A0x@@ ?$TSS0@?A0x@@4HA ?@?A0x@@3V1@ ??_G?A0x@@YGFXZ ?x@a@?A0x@@3HA ?x@?A0x1@?A0x@@3HA ?x@?A@?A0x@@3HA
+?x@@3Va@?A0x@@A ?f@@YAXV?$a@Vb@?A0x@@@@@Z ?x@??f@?A0x@@YAXXZ@3HA ??_7a@@6Bb@?A0x@@@ ?@?A0x ?@?A0x@ ?@?A0xg@@
+?@?A@@ ?@?A0x0@@ ?@?A0xf@@ ?@?A0xF@@ ?@?A0x00@@ ?@?A0@@ ?@?A0X1@@
+?a?A0x@@3HA ?x@a?A0x@@3HA ?x@?Q?A0x@@@3HA ??_C@_02A@?A0x@ ??_C@_03A@?A0x@
+?x@?A0x1@?A0x2@y@@3Va@3@A ?x@?A0x1@?A0x1@y@@3Va@2@A ?x@?A0xa@?A0xA@y@@3Va@3@A ?x@?A@?A@y@@3Va@1@A";
+
 const TRIED: &str = "
 ??@0123456789abcdefABCDEF012345678@ ??@0123456789abcdefABCDEF0123456789@
 ??@0123456789abcdefABCDEF01234567890@ ??@0123456789abcdefABCDEF0123456789
@@ -66,7 +75,7 @@ const PRODUCTIONS: &str = "
 ?x@a@b@c@@3HA ?x@?A@@3HA ?x@?A0x@@3HA ?x@?A0x12ab@@3HA ?x@?A0x12g@@3HA ?x@?A1@@3HA ?x@?Qi@@@3HA
 ?x@?Qi@@3HA ?x@?Qi@3HA ?x@?1??f@@YAXXZ@3HA ?x@?1??f@@YAXXZ@4HA ?x@?BA@?1@3HA ?x@??a@@3HA@3HA
 ?x@???@0123456789abcdefABCDEF0123456789@@3HA ?x@?$a@H@?$b@D@@3HA ?x@a@0@3HA ?x@a@01@3HA ?x@a@2@3HA
-?0@3HA ?x@0@3HA ?@?A0x@@3V1@ ?x@?A0x1@1@3HA ?x@?$a@0@@3HA ?x@?$a@V0@@@3HA ?x@?$a@V1@@@3HA
+?0@3HA ?x@0@3HA ?@?A0x0@@3V1@ ?x@?A0x1@1@3HA ?x@?$a@0@@3HA ?x@?$a@V0@@@3HA ?x@?$a@V1@@@3HA
 ?x@@0HA ?x@@1HA ?x@@2HA ?x@@3HA ?x@@4HA ?x@@5HA ?x@@3H ?x@@3HB ?x@@3HC ?x@@3HD ?x@@3HZ ?x@@3HAB
 ?x@@3PAHA ?x@@3PBHB ?x@@3PEAHEA ?x@@3PEBHEB ?x@@3AAHA ?x@@3BAHA ?x@@3QAHA ?x@@3RAHA ?x@@3SAHA
 ?x@@3$$QAHA ?x@@3$$QEAHEA ?x@@3PAPAPBHA ?x@@3PAY01HA ?x@@3AAY112HA ?x@@3PAP6AXXZA ?x@@3P6AHHD@ZA
@@ -123,6 +132,7 @@ pub fn symbols() -> Vec<Vec<u8>> {
     symbols.extend((1..CUT.len()).map(|end| CUT.as_bytes()[..end].to_vec()));
     symbols.extend(numbers());
     symbols.extend(words(BAD_NUMBERS).map(|word| word.as_bytes().to_vec()));
+    symbols.extend(words(NAMESPACES).map(|word| word.as_bytes().to_vec()));
     symbols.extend(words(PRODUCTIONS).map(|word| word.as_bytes().to_vec()));
     symbols
 }

@@ -39,15 +39,20 @@ pub fn printed(line: &[u8]) -> Result<Printed, String> {
     match number {
         ACCEPTED | SYNTAX if demands.too_heavy() => Err("too heavy for the crate".to_string()),
         ACCEPTED => accepted(symbol, offset),
-        SYNTAX => {
-            let (theirs, trap) = answers::decided(symbol);
-            match refusals::judge(symbol, (number, offset), theirs) {
-                Refusal::Different(difference) => Err(difference),
-                Refusal::Same => Ok(refused(number, offset, trap)),
-                Refusal::LeftOut(rule) => Ok(refused(number, offset, Some(rule.to_string()))),
-            }
-        }
+        SYNTAX => no_derivation(symbol, offset),
         _ => Ok(refused(number, offset, None)),
+    }
+}
+
+fn no_derivation(symbol: &str, offset: usize) -> Result<Printed, String> {
+    if let Some(rule) = refusals::unasked(symbol, (SYNTAX, offset)) {
+        return Ok(refused(SYNTAX, offset, Some(rule.to_string())));
+    }
+    let (theirs, trap) = answers::decided(symbol);
+    match refusals::judge(symbol, (SYNTAX, offset), theirs) {
+        Refusal::Different(difference) => Err(difference),
+        Refusal::Same => Ok(refused(SYNTAX, offset, trap)),
+        Refusal::LeftOut(rule) => Ok(refused(SYNTAX, offset, Some(rule.to_string()))),
     }
 }
 

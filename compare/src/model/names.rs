@@ -103,6 +103,9 @@ impl Model<'_> {
             self.template_name()?
         } else if self.consume("A0x") {
             let id = self.hex_digits();
+            if id.is_empty() {
+                return Err(Refused);
+            }
             self.expect("@")?;
             self.close(("namespace", id), &[])
         } else if self.consume("A") {

@@ -20,7 +20,7 @@ use Rattle.strings.proofs.Fit.{SpanFits}
 use Rattle.letters.specs.declared.Class.{Class}
 use Rattle.letters.proofs.Spelled.{starts-fits}
 use Rattle.grammar.specs.Program.{Program, ret, fail, look, when, skip, recall, keep, store, part, sub, node, Reply, found, refused, Out, out, onward, Part, Shut, Same, run}
-use Rattle.grammar.specs.Words.{_⇒_∥_, leafIs, leaf, spanIs, span, class, count}
+use Rattle.grammar.specs.Words.{_⇒_∥_, refuseIf, leafIs, leaf, spanIs, span, class, count}
 use Rattle.grammar.specs.declared.State.{State}
 use Rattle.grammar.specs.declared.Refusal.{Refusal}
 use Rattle.grammar.proofs.Leaves.{SpanLeast}
@@ -136,6 +136,10 @@ module _ {Tag : Type 0} {Ans : Tag → Type 0} {s : List ℕ} where
 
   pub either : {A : Type 0} {at : ℕ} {P : A → ℕ → Type 0} {b : Bool} {p q : Program Tag Ans A} → Calm s at P p → Calm s at P q → Calm s at P (when b p q)
   either f h = record { by = λ i. ((λ e. f .by i), (λ e. h .by i)) }
+
+  -- a test that refuses: what follows knows that it did not
+  pub unless : {at : ℕ} {b : Bool} → Calm {Ans = Ans} s at (λ u at′. (b ≡ false) × (at′ ≡ at)) (refuseIf b)
+  unless = record { by = λ i. ((λ e. tt), (λ e. (e, refl))) }
 
   pub seen : {A : Type 0} {at : ℕ} {P : A → ℕ → Type 0} {k : List ℕ → ℕ → Program Tag Ans A} → Calm s at P (k s at) → Calm s at P (look k)
   seen f = record { by = f .by }

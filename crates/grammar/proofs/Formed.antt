@@ -3,7 +3,7 @@
 --     grammar-formed   the theorem, over a list of nodes
 --     table-formed     so it is over a lent table
 -- Assumes nothing.
-use Prim.Native.Nat.{ℕ, zero, suc, _+_, _-_, _*_, _≤_, max}
+use Prim.Native.Nat.{ℕ, zero, suc, _+_, _-_, _*_, _<_, _≤_, max}
 use Prim.Native.String.{String}
 use mathlib.Core.Path.{_≡_, refl, sym, ap, ap₂, subst, _∙_}
 use mathlib.Core.List.{List, [], _∷_, _++_, append-nil}
@@ -12,7 +12,7 @@ use native.Mathlib.Omega.{arith}
 use lib.ListN.{length, getD, take, drop, replicate, length-drop, getD-replicate}
 use lib.Seq.{getD-take, getD-drop}
 use lib.Dec.{leb}
-use borrow.Author.Tests.{leb-true, lt-leb, eqb-false}
+use borrow.Author.Tests.{leb-true, lt-leb, ne-eqb, eqb-false}
 use Rattle.scan.specs.Bytes.{bytes}
 use Rattle.scan.specs.Number.{readNumber, readUnsigned, readGuardNumber}
 use Rattle.scan.specs.Name.{readString, readHexDigits, readMd5Name}
@@ -38,11 +38,11 @@ use Rattle.forms.specs.declared.begins.SymbolForm.the-variants as symbol
 use Rattle.forms.specs.declared.begins.NameForm.{NameForm}
 use Rattle.forms.specs.declared.begins.NameForm.the-variants as name
 use Rattle.form.specs.Kinds as kind
-use Rattle.node.specs.Cells.{nodes, cellOf, heightAt}
+use Rattle.node.specs.Cells.{nodes, cellOf, heightAt, KIND, Q}
 use Rattle.form.specs.Form.{wellFormed}
 use Rattle.grammar.specs.Program.{ret, part, Reply, found, Out, out, Same}
 use Rattle.grammar.specs.Words.{_⇒_∥_, expect, leaf, class, nameOf}
-use Rattle.node.specs.Kind.{Kind, NamePlace, TypePlace, Ptr, Ref, RValueRef, Struct, Union, Class, Enum, Basic, kindNumber, ParseResult}
+use Rattle.node.specs.Kind.{Kind, NamePlace, TypePlace, Ptr, Ref, RValueRef, Struct, Union, Class, Enum, Basic, kindNumber, ParseResult, AnonymousId}
 use Rattle.grammar.specs.Grammar.{Tag, Parse, OuterMd5, OuterTemplate, OuterGuard, MdFive, OuterName, SymbolType, NoType, GuardType, Name, Unqualified, Nested, VarType, Func, Dimension, Variadic, NoParams, NoReturn, Ans, Reading, close, emptyMemo, place, name′, stored, unqualifiedName, nestedName, referenceOr, varType, scopeFrom, scope, listEnd, storedParam, newParam, paramsFrom, params, funcParams, templateName, plainName, rttiTypeDescriptor, rttiBaseClassDescriptor, specialName, unqualifiedBody, nestedOf, nestedBody, nameBody, pointee, element, nestedArray, dimensions, array, funcReturnType, funcType, memberClasses, memberFunctionPointer, named, pointing, letterType, noLetter, plainType, formType, varTypeBody, charsIs, encodedString, memberFunction, symbolTypeOf, symbolTypeBody, indexAndOne, guardIndex, parsed, parseOf, body}
 use Rattle.grammar.specs.Counts.{Node, heightOf, rises, readNodes}
 use Rattle.grammar.specs.Table.{cellsOf, sameNodes, readTable}
@@ -50,8 +50,8 @@ use Rattle.grammar.specs.declared.State.{State}
 use Rattle.grammar.proofs.Leaves.{unsigned-fits, string-fits, string-least, hex-fits, guard-number-fits, md5-fits, md5-least, calling-conv-fits, func-class-fits, return-class-fits, string-width-fits, guard-marker-fits, operator-fits, storage-class-fits, qualifier-fits, func-qualifiers-fits, ReferenceFits, reference-fits, EncodedFits, encoded-fits}
 use Rattle.grammar.proofs.Table.{Holds, Agree, reads-agree}
 use Rattle.grammar.proofs.Bounds.{number-below, unsigned-below, guard-number-below, calling-conv-below, func-class-below, operator-below, return-class-below, storage-class-bound, qualifier-bound, func-qualifiers-bound}
-use Rattle.grammar.proofs.Rows.{kindAt, Known, known-none, rowOf, wider, empty, ref, cell-kind, height-cells, well-formed}
-use Rattle.grammar.proofs.Calm.{Calm, is, refuses, either, seen, if, next, valued, leaves, spanned, classed, counted}
+use Rattle.grammar.proofs.Rows.{kindAt, Known, known-none, rowOf, wider, empty, ref, isId, cell-kind, height-cells, well-formed, ids-long}
+use Rattle.grammar.proofs.Calm.{Calm, is, refuses, either, unless, seen, if, next, valued, leaves, spanned, classed, counted}
 use Rattle.grammar.proofs.Sound.{World, world, Stored, Good, Post, Ended, Ends, Setting, Sound, since, still, NodeIs, LastIs, ListIs, ends, fails, looks, chooses, then, through, opens, skips, inside, says, widens, reads, heres, remembers, replaces, on, digits, orders, shuts-last, shuts-by, shuts, name-refs, name-refs-here, no-names, type-refs, stores, stores-if, stores-unless, reads-sound}
 use Rattle.scan.specs.Limits.{Short}
 
@@ -294,9 +294,10 @@ module _ (x : Setting Asks Gives) (short : length (x .symbol) ≤ kind.any) wher
   nested-of-ok name.Template n e l = through template-name-ok (λ n. stores (wider _ (n .holds) refl) (λ m. ends (n .height) (wider _ (n .holds) refl) (omega arith)))
   nested-of-ok name.AnonymousId n e l =
       heres (reads (counted readHexDigits hex-fits)
-      (λ digits. reads (expects "@")
-      (λ u. through (shuts {mask = kind.scoped} refl (empty refl) (omega (arith, leb-true 2 n e, digits .holds, u .holds, u .inside)))
-      (λ n. stores (wider _ (n .holds) refl) (λ m. ends (n .height) (wider _ (n .holds) refl) (omega arith))))))
+      (λ digits. reads unless
+      (λ some. reads (expects "@")
+      (λ u. through (shuts {mask = kind.scoped} refl (empty refl) (omega (arith, leb-true 2 n e, digits .holds, eqb-false (digits .value) 0 (some .holds .0), some .holds .1, u .holds, u .inside)))
+      (λ n. stores (wider _ (n .holds) refl) (λ m. ends (n .height) (wider _ (n .holds) refl) (omega arith)))))))
   nested-of-ok name.Anonymous n e l = reads (expects "@") (λ u. shuts refl (empty refl) (omega arith))
   nested-of-ok name.Interface n e l =
       heres (reads (spanned readString string-fits string-least)
@@ -383,11 +384,11 @@ module _ (x : Setting Asks Gives) (short : length (x .symbol) ≤ kind.any) wher
       (λ l. shuts refl (ref (since l (t .holds)) refl (ref (l .holds) refl (ref (since l (since t (s .holds))) refl (empty refl)))) (omega (arith, c .holds, conv .holds)))))))))
 
   -- a name of a kind, and a pointer of one
-  named-ok : {w : World} (k : Kind) (sc : ℕ) → rowOf (kindNumber k) ≡ kind.row kind.varType kind.symbol kind.nothing kind.nothing kind.classMost 0 0 0 0 → rises (kindNumber k) ≡ 1 → sc ≤ kind.classMost → Ok w 1 0 (named k sc) (NodeIs kind.varType)
-  named-ok k sc e r l = then (names false) (λ n. shuts-by _ e r refl (ref (n .holds) refl (empty refl)) (omega arith))
+  named-ok : {w : World} (k : Kind) (sc : ℕ) → rowOf (kindNumber k) ≡ kind.row kind.varType kind.symbol kind.nothing kind.nothing kind.classMost 0 0 0 0 → rises (kindNumber k) ≡ 1 → isId (kindNumber k) ≡ false → sc ≤ kind.classMost → Ok w 1 0 (named k sc) (NodeIs kind.varType)
+  named-ok k sc e r d l = then (names false) (λ n. shuts-by _ e r d refl (ref (n .holds) refl (empty refl)) (omega arith))
 
-  pointing-ok : {w : World} (k : Kind) (sc : ℕ) → rowOf (kindNumber k) ≡ kind.row kind.varType aType kind.nothing kind.nothing kind.classMost 0 0 0 0 → rises (kindNumber k) ≡ 1 → sc ≤ kind.classMost → Ok w 1 0 (pointing k sc) (NodeIs kind.varType)
-  pointing-ok k sc e r l = then pointee-ok (λ t. shuts-by _ e r refl (ref (t .holds) refl (empty refl)) (omega arith))
+  pointing-ok : {w : World} (k : Kind) (sc : ℕ) → rowOf (kindNumber k) ≡ kind.row kind.varType aType kind.nothing kind.nothing kind.classMost 0 0 0 0 → rises (kindNumber k) ≡ 1 → isId (kindNumber k) ≡ false → sc ≤ kind.classMost → Ok w 1 0 (pointing k sc) (NodeIs kind.varType)
+  pointing-ok k sc e r d l = then pointee-ok (λ t. shuts-by _ e r d refl (ref (t .holds) refl (empty refl)) (omega arith))
 
   -- the basic types are 22 kinds of one shape
   abbrev basic : List ℕ
@@ -399,7 +400,7 @@ module _ (x : Setting Asks Gives) (short : length (x .symbol) ≤ kind.any) wher
       sym (getD-drop 38 kind.shapes k []) ∙ sym (getD-take 22 (drop 38 kind.shapes) k [] (omega arith)) ∙ ap (λ (rows : List (List ℕ)). getD rows k []) same ∙ getD-replicate 22 k basic [] (omega arith)
 
   basic-ok : {w : World} (k sc : ℕ) → k ≤ 21 → sc ≤ kind.classMost → Ok w 1 0 (close (Basic k) (sc ∷ []) []) (NodeIs kind.varType)
-  basic-ok k sc l h = shuts-by basic (basic-row k l) (rw (lt-leb (38 + k) 2 (omega arith))) refl (empty refl) (omega arith)
+  basic-ok k sc l h = shuts-by basic (basic-row k l) (rw (lt-leb (38 + k) 2 (omega arith))) (ne-eqb (38 + k) (kindNumber AnonymousId) (λ e. omega arith)) refl (empty refl) (omega arith)
 
   abbrev isBasic : ℕ → TypeLetter → Bool
   isBasic n letter.Parameter = true
@@ -419,15 +420,15 @@ module _ (x : Setting Asks Gives) (short : length (x .symbol) ≤ kind.any) wher
   letter-type-ok : {w : World} (sc : ℕ) → sc ≤ kind.classMost → (n : ℕ) (y : TypeLetter) → isBasic n y ≡ true → Ok w 1 0 (letterType sc y) (NodeIs kind.varType)
   unfolding letterType
   letter-type-ok sc l m letter.Parameter e = reads numbers (λ n. shuts refl (empty refl) (omega arith))
-  letter-type-ok sc l m letter.Union e = named-ok Union sc refl refl l
-  letter-type-ok sc l m letter.Struct e = named-ok Struct sc refl refl l
-  letter-type-ok sc l m letter.Class e = named-ok Class sc refl refl l
-  letter-type-ok sc l m letter.Ref e = pointing-ok Ref sc refl refl l
-  letter-type-ok sc l m letter.VolatileRef e = pointing-ok Ref VOLATILE refl refl (omega arith)
-  letter-type-ok sc l m letter.Ptr e = pointing-ok Ptr sc refl refl l
-  letter-type-ok sc l m letter.ConstPtr e = pointing-ok Ptr CONST refl refl (omega arith)
-  letter-type-ok sc l m letter.VolatilePtr e = pointing-ok Ptr VOLATILE refl refl (omega arith)
-  letter-type-ok sc l m letter.ConstVolatilePtr e = pointing-ok Ptr (CONST + VOLATILE) refl refl (omega arith)
+  letter-type-ok sc l m letter.Union e = named-ok Union sc refl refl refl l
+  letter-type-ok sc l m letter.Struct e = named-ok Struct sc refl refl refl l
+  letter-type-ok sc l m letter.Class e = named-ok Class sc refl refl refl l
+  letter-type-ok sc l m letter.Ref e = pointing-ok Ref sc refl refl refl l
+  letter-type-ok sc l m letter.VolatileRef e = pointing-ok Ref VOLATILE refl refl refl (omega arith)
+  letter-type-ok sc l m letter.Ptr e = pointing-ok Ptr sc refl refl refl l
+  letter-type-ok sc l m letter.ConstPtr e = pointing-ok Ptr CONST refl refl refl (omega arith)
+  letter-type-ok sc l m letter.VolatilePtr e = pointing-ok Ptr VOLATILE refl refl refl (omega arith)
+  letter-type-ok sc l m letter.ConstVolatilePtr e = pointing-ok Ptr (CONST + VOLATILE) refl refl refl (omega arith)
   letter-type-ok sc l m letter.Array e = array-ok
   letter-type-ok sc l m (letter.Basic k) e = basic-ok k sc (leb-true k 21 e) l
   letter-type-ok sc l m letter.Refused e = fails
@@ -441,14 +442,14 @@ module _ (x : Setting Asks Gives) (short : length (x .symbol) ≤ kind.any) wher
 
   form-type-ok : {w : World} (sc : ℕ) → sc ≤ kind.classMost → (y : TypeForm) → Ok w 1 0 (formType sc y) (NodeIs aType)
   unfolding formType
-  form-type-ok sc l form.Enum = widens aType (named-ok Enum sc refl refl l) refl
+  form-type-ok sc l form.Enum = widens aType (named-ok Enum sc refl refl refl l) refl
   form-type-ok sc l form.FunctionRef = then (opens Func tt) (λ f. shuts refl (ref (f .holds) refl (empty refl)) (omega arith))
   form-type-ok sc l form.FunctionPtr = then (opens Func tt) (λ f. shuts refl (ref (f .holds) refl (empty refl)) (omega arith))
   form-type-ok sc l form.MemberFunctionPtr = widens aType (member-function-pointer-ok true) refl
   form-type-ok sc l form.Constant = reads numbers (λ n. shuts refl (empty refl) (omega (arith, n .holds)))
   form-type-ok sc l form.TemplateParameter = reads numbers (λ n. shuts refl (empty refl) (omega (arith, n .holds)))
   form-type-ok sc l form.Array = widens aType array-ok refl
-  form-type-ok sc l form.RValueRef = widens aType (pointing-ok RValueRef sc refl refl l) refl
+  form-type-ok sc l form.RValueRef = widens aType (pointing-ok RValueRef sc refl refl refl l) refl
   form-type-ok sc l form.EmptyPack = shuts refl (empty refl) (omega arith)
   form-type-ok sc l form.Nullptr = shuts refl (empty refl) (omega arith)
   form-type-ok sc l form.Function = widens aType (func-type-ok false) refl
@@ -572,12 +573,13 @@ module _ (x : Setting Asks Gives) (short : length (x .symbol) ≤ kind.any) wher
   body-ok NoParams a = reads (expects "X") (λ u. shuts refl (empty refl) (omega arith))
   body-ok NoReturn a = reads (expects "@") (λ u. shuts refl (empty refl) (omega arith))
 
--- what a reading leaves that answers with n: a well-formed table, whatever stands behind it; its last node is the root, a ParseResult; the counts are its nodes and its height
+-- what a reading leaves that answers with n: a well-formed table, whatever stands behind it; its last node is the root, a ParseResult; each id has a digit; the counts are its nodes and its height
 pub record Whole (s : List ℕ) (n : ℕ) (st : State) (ns : List Node) : Type 0 where
   pub formed : wellFormed (cellsOf ns) (length s) (length ns) ≡ true
   pub held : (tail : List ℕ) → wellFormed (cellsOf ns ++ tail) (length s) (length ns) ≡ true
   pub last : n + 1 ≡ length ns
   pub root : kindAt ns n ≡ kindNumber ParseResult
+  pub ids : (tail : List ℕ) (i : ℕ) → i < length ns → cellOf (cellsOf ns ++ tail) i KIND ≡ kindNumber AnonymousId → 3 ≤ cellOf (cellsOf ns ++ tail) i Q
   pub used : st .used ≡ length ns
   pub deep : st .deep ≡ heightOf ns (n + 1)
 
@@ -587,6 +589,7 @@ whole s w n w′ d e = record {
   held = λ tail. well-formed (length s) (w′ .nodes) tail (e .good .formed);
   last = e .holds .1;
   root = e .holds .2;
+  ids = λ tail i l k. ids-long (length s) tail [] (w′ .nodes) (e .good .formed) i l k;
   used = e .good .used;
   deep = omega (arith, e .shallow, e .holds .0 .high, e .good .low (n + 1));
 }

@@ -220,10 +220,11 @@ module _ (s : List ℕ) where
   nested-of-earns name.AnonymousId =
       then 2 (looks (λ at. ends (omega arith)))
       (λ from. then 2 (hexes (omega arith))
-      (λ digits. then 2 (expects "@" (omega arith))
+      (λ digits. then 2 (chooses fails (ends (omega arith)))
+      (λ u. then 2 (expects "@" (omega arith))
       (λ u. then 1 (shuts (omega arith))
       (λ n. then 1 (stores (ends (omega arith)))
-      (λ u. ends (omega arith))))))
+      (λ u. ends (omega arith)))))))
   nested-of-earns name.Anonymous = then 2 (expects "@" (omega arith)) (λ u. shuts (omega arith))
   nested-of-earns name.Interface =
       then 2 (looks (λ at. ends (omega arith)))

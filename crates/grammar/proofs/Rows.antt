@@ -2,6 +2,7 @@
 --     Known         a reference's class fits a mask, and its height is known; nodes that are added change neither
 --     NodeOk        a node is formed, over the nodes before it
 --     well-formed   a list of formed nodes is a well-formed table, whatever cells stand behind it
+--     ids-long      and every id in it has a digit
 -- Assumes nothing.
 use Prim.Native.Nat.{ℕ, zero, suc, _+_, _-_, _*_, _/_, _%_, _<_, _≤_, max}
 use mathlib.Core.Path.{_≡_, refl, sym, ap, _∙_}
@@ -16,6 +17,7 @@ use lib.Seq.{getD-append-add, append-snoc}
 use lib.Dec.{ltb, leb, eqb}
 use borrow.Author.Tests.{eqb-true, lt-ltb, le-ltb, le-leb, eq-eqb, ne-eqb}
 use Rattle.node.specs.Cells as table
+use Rattle.node.specs.Kind.{kindNumber, AnonymousId}
 use Rattle.form.specs.Kinds.{nothing, shapes, shapeOf}
 use Rattle.form.specs.Form.{fits, refOk, refsOk, numberOk, numbersOk, rangeOk, restOk, heightOk, nodeOk, wellFormed}
 use Rattle.form.proofs.Formed.{formed-more}
@@ -173,12 +175,21 @@ InRange long (suc g) n = n ≤ long
 abbrev pub Numbers : ℕ → List ℕ → List ℕ → Type 0
 Numbers long row vs = Bounded (boundsOf row) vs × InRange long (getD row 8 0) (getD vs 0 0 + getD vs 1 0)
 
+-- a namespace's id has a digit behind its `0x`: the form of a table does not ask for it, but each reading leaves it so
+abbrev pub isId : ℕ → Bool
+isId kind = eqb kind (kindNumber AnonymousId)
+
+abbrev pub IdIf : Bool → List ℕ → Type 0
+IdIf true vs = 3 ≤ getD vs 1 0
+IdIf false vs = Unit {0}
+
 -- a node that is formed, over those before it
 pub record NodeOk (long : ℕ) (front : List Node) (n : Node) : Type 0 where
   pub known : getD (rowOf (n .kind)) 0 0 ≡ 0 → ⊥
   pub tall : ℕ
   pub refs : Refs front (masksOf (rowOf (n .kind))) (n .refs) tall
   pub numbers : Numbers long (rowOf (n .kind)) (n .numbers)
+  pub id : IdIf (isId (n .kind)) (n .numbers)
   pub height : n .height ≡ tall + rises (n .kind)
 
 -- nodes that are formed one by one, behind some that are
@@ -402,3 +413,18 @@ formed-table long tail front (n ∷ ns) f e =
 pub well-formed : (long : ℕ) (ns : List Node) (tail : List ℕ) → FormedFrom long [] ns → wellFormed (cellsOf ns ++ tail) long (length ns) ≡ true
 unfolding wellFormed
 well-formed long ns tail f = rw (zero-add (length ns)) at (formed-table long tail [] ns f refl)
+
+-- and each id among them has a digit
+id-long : (kind : ℕ) (vs : List ℕ) → kind ≡ kindNumber AnonymousId → IdIf (isId kind) vs → 3 ≤ getD vs 1 0
+id-long kind vs e h = rw e at h
+
+pub ids-long :
+    (long : ℕ) (tail : List ℕ) (front ns : List Node) → FormedFrom long front ns → (i : ℕ) → i < length ns →
+    table.cellOf (cellsOf ns ++ tail) i table.KIND ≡ kindNumber AnonymousId → 3 ≤ table.cellOf (cellsOf ns ++ tail) i table.Q
+ids-long long tail front [] f i l e = absurd (omega arith)
+ids-long long tail front (n ∷ ns) f zero l e =
+    let first = first-cell (cellsAt n) (cellsOf ns ++ tail) refl in
+    rw (first table.Q (omega arith)) (id-long (n .kind) (n .numbers) (sym (first table.KIND (omega arith)) ∙ e) (f .0 .id))
+ids-long long tail front (n ∷ ns) f (suc i) l e =
+    let next = next-cell (cellsAt n) (cellsOf ns ++ tail) refl i in
+    rw (next table.Q) (ids-long long tail (front ++ (n ∷ [])) ns (f .1) i (omega arith) (sym (next table.KIND) ∙ e))

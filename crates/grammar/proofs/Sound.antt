@@ -29,7 +29,7 @@ use Rattle.grammar.specs.declared.Memo.{Memo}
 use Rattle.grammar.proofs.Funded.{true-false, digit-inside}
 use Rattle.grammar.proofs.Bounds.{both}
 use Rattle.grammar.proofs.Calm.{moved, IfFound, Calm, Taken, after-quiet, run-quiet, starts-inside}
-use Rattle.grammar.proofs.Rows.{kindAt, classAt, Known, known-later, has, within, wider, rowOf, masksOf, Refs, Numbers, NodeOk, FormedFrom, formed-snoc, known-last, kind-last, low-last, low-tallest, refs-tallest}
+use Rattle.grammar.proofs.Rows.{kindAt, classAt, Known, known-later, has, within, wider, rowOf, masksOf, Refs, Numbers, isId, IdIf, NodeOk, FormedFrom, formed-snoc, known-last, kind-last, low-last, low-tallest, refs-tallest}
 
 -- a state, and the nodes counted by then
 pub record World : Type 0 where
@@ -273,7 +273,7 @@ rise-shallow true d count h l = omega arith
 rise-shallow false d count h l = omega arith
 
 module _ (s : List ℕ) (w : World) (kd : ℕ) (numbers refs row : List ℕ) (t : ℕ)
-    (is : rowOf kd ≡ row) (known : getD row 0 0 ≡ 0 → ⊥) (fit : Refs (w .nodes) (masksOf row) refs t) (bounded : Numbers (length s) row numbers) where
+    (is : rowOf kd ≡ row) (known : getD row 0 0 ≡ 0 → ⊥) (fit : Refs (w .nodes) (masksOf row) refs t) (bounded : Numbers (length s) row numbers) (id : IdIf (isId kd) numbers) where
   abbrev new : Node
   new = made kd numbers refs (w .nodes)
 
@@ -281,7 +281,7 @@ module _ (s : List ℕ) (w : World) (kd : ℕ) (numbers refs row : List ℕ) (t 
   after = world (closed (deepens new) (w .state)) (w .nodes ++ (new ∷ []))
 
   made-ok : NodeOk (length s) (w .nodes) new
-  made-ok = record { known = rw is known; tall = t; refs = rw is fit; numbers = subst (λ (row : List ℕ). Numbers (length s) row numbers) (sym is) bounded; height = rw (refs-tallest fit) }
+  made-ok = record { known = rw is known; tall = t; refs = rw is fit; numbers = subst (λ (row : List ℕ). Numbers (length s) row numbers) (sym is) bounded; id = id; height = rw (refs-tallest fit) }
 
   made-good : Good s w → Good s after
   made-good g =
@@ -362,14 +362,14 @@ module _ {Tag : Type 0} {Ans : Tag → Type 0} {Asks : Tag → Type 0} {Gives : 
   -- closing a node: what its kind's row asks for
   pub closes :
       {w : World} {need t : ℕ} {numbers refs : List ℕ} {Q : Post ℕ} (kd : ℕ) (row : List ℕ) → rowOf kd ≡ row → (getD row 0 0 ≡ 0 → ⊥) →
-      Refs (w .nodes) (masksOf row) refs t → Numbers (length (x .symbol)) row numbers → need ≤ t →
+      Refs (w .nodes) (masksOf row) refs t → Numbers (length (x .symbol)) row numbers → IdIf (isId kd) numbers → need ≤ t →
       ((w′ : World) → w′ .nodes ≡ w .nodes ++ (made kd numbers refs (w .nodes) ∷ []) → Q (length (w .nodes)) (t + rises kd) w′) →
       Sound x w (rises kd) need (node kd numbers refs ret) Q
   unfolding run
-  closes {w} {need} {t} {numbers} {refs} {Q} kd row is known fit bounded n q =
-      let w′ : World = after (x .symbol) w kd numbers refs row t is known fit bounded in
+  closes {w} {need} {t} {numbers} {refs} {Q} kd row is known fit bounded id n q =
+      let w′ : World = after (x .symbol) w kd numbers refs row t is known fit bounded id in
       record {
-        by = λ g. same-ends w _ _ refl (made-ends (x .symbol) w kd numbers refs row t is known fit bounded (x .limit) (x .room) (x .count) need Q (x .within) g n (subst (λ (n : ℕ). Q n (t + rises kd) w′) (sym (g .used)) (q w′ refl)));
+        by = λ g. same-ends w _ _ refl (made-ends (x .symbol) w kd numbers refs row t is known fit bounded id (x .limit) (x .room) (x .count) need Q (x .within) g n (subst (λ (n : ℕ). Q n (t + rises kd) w′) (sym (g .used)) (q w′ refl)));
       }
 
   -- what is known of the place
@@ -443,10 +443,10 @@ module _ {Tag : Type 0} {Ans : Tag → Type 0} {Asks : Tag → Type 0} {Gives : 
   -- closing a node that is one of a mask's
   pub shuts-last :
       {w : World} {need t mask kd : ℕ} {numbers refs : List ℕ} (row : List ℕ) → rowOf kd ≡ row → has mask (getD row 0 0) ≡ true →
-      Refs (w .nodes) (masksOf row) refs t → (need ≤ t) × Numbers (length (x .symbol)) row numbers → Sound x w (rises kd) need (node kd numbers refs ret) (LastIs mask kd)
+      Refs (w .nodes) (masksOf row) refs t → (need ≤ t) × Numbers (length (x .symbol)) row numbers × IdIf (isId kd) numbers → Sound x w (rises kd) need (node kd numbers refs ret) (LastIs mask kd)
   shuts-last {w} {mask = mask} {kd} {numbers} {refs} row e f fit n =
       let new : Node = made kd numbers refs (w .nodes) in
-      closes kd row e (has-some mask (getD row 0 0) f) fit (n .1) (n .0)
+      closes kd row e (has-some mask (getD row 0 0) f) fit (n .1) (n .2) (n .0)
       (λ w′ q. (
         rw q (subst (λ (h : ℕ). Known mask (w .nodes ++ (new ∷ [])) (length (w .nodes) + 1) (h + rises kd)) (refs-tallest fit) (known-last (w .nodes) new row e f)),
         rw q (sym (length-append (w .nodes) (new ∷ []))),
@@ -454,15 +454,16 @@ module _ {Tag : Type 0} {Ans : Tag → Type 0} {Asks : Tag → Type 0} {Gives : 
       ))
 
   pub shuts-by :
-      {w : World} {r need t mask kd : ℕ} {numbers refs : List ℕ} (row : List ℕ) → rowOf kd ≡ row → rises kd ≡ r → has mask (getD row 0 0) ≡ true →
-      Refs (w .nodes) (masksOf row) refs t → (need ≤ t) × Numbers (length (x .symbol)) row numbers → Sound x w r need (node kd numbers refs ret) (NodeIs mask)
-  shuts-by {w} {need = need} {mask = mask} {kd} {numbers} {refs} row e r f fit n =
-      subst (λ (r : ℕ). Sound x w r need (node kd numbers refs ret) (NodeIs mask)) r (says (shuts-last {mask = mask} row e f fit n) (λ a h w k. k .0))
+      {w : World} {r need t mask kd : ℕ} {b : Bool} {numbers refs : List ℕ} (row : List ℕ) → rowOf kd ≡ row → rises kd ≡ r → isId kd ≡ b → has mask (getD row 0 0) ≡ true →
+      Refs (w .nodes) (masksOf row) refs t → (need ≤ t) × Numbers (length (x .symbol)) row numbers × IdIf b numbers → Sound x w r need (node kd numbers refs ret) (NodeIs mask)
+  shuts-by {w} {need = need} {mask = mask} {kd} {b} {numbers} {refs} row e r d f fit n =
+      let id : IdIf (isId kd) numbers = subst (λ (b : Bool). IdIf b numbers) (sym d) (n .2) in
+      subst (λ (r : ℕ). Sound x w r need (node kd numbers refs ret) (NodeIs mask)) r (says (shuts-last {mask = mask} row e f fit (n .0, n .1, id)) (λ a h w k. k .0))
 
   pub shuts :
       {w : World} {need t mask kd : ℕ} {numbers refs : List ℕ} → has mask (getD (rowOf kd) 0 0) ≡ true →
-      Refs (w .nodes) (masksOf (rowOf kd)) refs t → (need ≤ t) × Numbers (length (x .symbol)) (rowOf kd) numbers → Sound x w (rises kd) need (node kd numbers refs ret) (NodeIs mask)
-  shuts {kd = kd} f fit n = shuts-by (rowOf kd) refl refl f fit n
+      Refs (w .nodes) (masksOf (rowOf kd)) refs t → (need ≤ t) × Numbers (length (x .symbol)) (rowOf kd) numbers × IdIf (isId kd) numbers → Sound x w (rises kd) need (node kd numbers refs ret) (NodeIs mask)
+  shuts {kd = kd} f fit n = shuts-by (rowOf kd) refl refl refl f fit n
 
   -- a stored name or type
   pub name-refs : {w : World} (i : ℕ) → Sound x w 0 0 (nameOf i) (NodeIs (plain + scoped))

@@ -235,7 +235,7 @@ unqualifiedBody function =
       n ← plainName
       ret (n, false))
 
--- read_nested_name. A namespace with no id is not stored
+-- read_nested_name. A namespace with no id is not stored; an id has a digit, as the works asked (docs/DIFFERENCES.md)
 unfoldable pub nestedOf : NameForm → Reading ℕ
 -- not reached: nestedName takes a digit before it opens this part
 nestedOf (name.Stored i) = nameOf i
@@ -248,6 +248,7 @@ nestedOf name.Template = do
 nestedOf name.AnonymousId = do
   from ← here
   digits ← hexDigits
+  refuseIf (eqb digits 0)
   expect "@"
   n ← close AnonymousId ((from - 2) ∷ (digits + 2) ∷ []) []
   memorizeName n

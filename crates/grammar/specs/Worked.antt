@@ -7,12 +7,12 @@ use lib.Dec.{eqb}
 use Rattle.scan.specs.Bytes.{bytes}
 use Rattle.scan.specs.Cursor.{readDigit}
 use Rattle.scan.specs.Number.{letters, magnitude, readNumber, readUnsigned}
-use Rattle.scan.specs.Name.{stringFrom}
+use Rattle.scan.specs.Name.{stringFrom, hexDigitsFrom}
 use Rattle.letters.specs.Classes.{readCallingConv, readStorageClass, readStorageClassForReturn, readGuardMarker}
 use Rattle.operators.specs.Operators.{readOperator}
 use Rattle.forms.specs.Types.{typeReference}
 use Rattle.grammar.specs.Program.{Out, Reply, found, refused, Same, run}
-use Rattle.grammar.specs.Grammar.{Parse, body, emptyMemo, scopeFrom, scope, listEnd, newParam, paramsFrom, params, funcParams, templateName, plainName, specialName, unqualifiedBody, nameBody, pointee, letterType, plainType, varTypeBody, symbolTypeOf, symbolTypeBody, indexAndOne, guardIndex, parseOf}
+use Rattle.grammar.specs.Grammar.{Parse, body, emptyMemo, scopeFrom, scope, listEnd, newParam, paramsFrom, params, funcParams, templateName, plainName, specialName, unqualifiedBody, nestedOf, nestedBody, nameBody, pointee, letterType, plainType, varTypeBody, symbolTypeOf, symbolTypeBody, indexAndOne, guardIndex, parseOf}
 use Rattle.grammar.specs.Counts.{Node, asks, readAsking, shutAsking, settle}
 use Rattle.grammar.specs.declared.State.{State}
 use Rattle.grammar.specs.declared.Refusal.the-variants.{Syntax, Deep, Full}
@@ -51,11 +51,15 @@ cases =
     -- a bad number: at the byte that does not belong, or at the end
     ∷ (9, 99, "??_B@5A", (refused Syntax, 7, 2))
     ∷ (9, 99, "??_B@5?BQ@", (refused Syntax, 8, 2))
+    -- an anonymous namespace's id has a digit; one may have no id
+    ∷ (9, 99, "?@?A0x@@", (refused Syntax, 6, 1))
+    ∷ (9, 99, "?@?A0x0@@", (found 5, 9, 6))
+    ∷ (9, 99, "?@?A@@", (found 5, 6, 6))
     -- no room: a list's entry, then its place
     ∷ (9, 3, "?f@@YAXXZ", (refused Full, 8, 3))
     ∷ (9, 4, "?f@@YAXXZ", (refused Full, 8, 4))
     ∷ []
 
 worked : map (λ c. within (c .0) (c .1) (c .2)) cases ≡ map (λ c. c .3) cases
-unfolding readAsking shutAsking run body scopeFrom scope listEnd newParam paramsFrom params funcParams templateName plainName specialName unqualifiedBody nameBody pointee letterType plainType varTypeBody symbolTypeOf symbolTypeBody indexAndOne guardIndex parseOf readDigit readNumber magnitude letters readUnsigned stringFrom readCallingConv readStorageClass readStorageClassForReturn readGuardMarker readOperator typeReference
+unfolding readAsking shutAsking run body scopeFrom scope listEnd newParam paramsFrom params funcParams templateName plainName specialName unqualifiedBody nestedOf nestedBody nameBody pointee letterType plainType varTypeBody symbolTypeOf symbolTypeBody indexAndOne guardIndex parseOf readDigit readNumber magnitude letters readUnsigned stringFrom hexDigitsFrom readCallingConv readStorageClass readStorageClassForReturn readGuardMarker readOperator typeReference
 worked = refl

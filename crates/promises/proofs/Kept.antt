@@ -13,6 +13,7 @@ use Rattle.promises.proofs.Flags as flags
 use Rattle.promises.proofs.Gated as gated
 use Rattle.promises.proofs.Digits as digits
 use Rattle.promises.proofs.Memos as memos
+use Rattle.promises.proofs.Namespaces as namespaces
 
 pub kept : Promises
 kept = record {
@@ -47,6 +48,9 @@ kept = record {
   rejects = grammar.rejects-exactly;
   templates-hand-back = memos.templates-hand-back;
   digits-recall = memos.digits-recall;
+  namespaces-stored = namespaces.namespaces-stored;
+  ids-apart = namespaces.ids-apart;
+  ids-have-digits = namespaces.ids-have-digits;
   lists-end = memos.lists-end;
   more-answered = budgets.answered-more;
   more-refused = budgets.refused-more;

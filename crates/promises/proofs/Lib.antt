@@ -12,4 +12,5 @@ pub mod Flags
 pub mod Gated
 pub mod Memos
 pub mod Digits
+pub mod Namespaces
 pub mod Kept

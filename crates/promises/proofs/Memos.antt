@@ -8,7 +8,7 @@ use Rattle.grammar.proofs.Turns.{Lawful, table-lawful, nodes-lawful, asking-law
 use Rattle.promises.specs.Promises.{Said, OfEachReading, HandsBack, Digits, EnoughTurns, TemplatesHandBack, DigitsRecall, ListsEnd}
 
 -- what is true of every lawful reading is true of the three
-of-each : (P : Said) → ((T : Type 0) (s : List ℕ) (same : Same T) (shut : Shut T) (rec : Part Tag Ans T) → Lawful s shut rec → P T s same shut rec) → OfEachReading P
+pub of-each : (P : Said) → ((T : Type 0) (s : List ℕ) (same : Same T) (shut : Shut T) (rec : Part Tag Ans T) → Lawful s shut rec → P T s same shut rec) → OfEachReading P
 of-each P f s = ((λ limit room d. f _ s _ _ _ (table-lawful s limit room d)), (λ same limit room d. f _ s _ _ _ (nodes-lawful s same limit room d)), (λ same d. f _ s _ _ _ (asking-lawful s same d)))
 
 digits : {T : Type 0} (s : List ℕ) (same : Same T) (shut : Shut T) (rec : Part Tag Ans T) → Digits T s same shut rec

@@ -10,19 +10,21 @@ use mathlib.Core.List.{List, [], _∷_, _++_}
 use mathlib.Core.Logic.{_↔_, _⊎_}
 use lib.Dec.{eqb}
 use lib.ListN.{length, take, drop, getD, replicate}
-use Rattle.scan.specs.Bytes.{bytes, isDigit}
+use Rattle.scan.specs.Bytes.{bytes, starts, isDigit}
 use Rattle.scan.specs.Number.{readNumber}
+use Rattle.scan.specs.Name.{readHexDigits}
 use Rattle.scan.specs.Cases.{NumberCases}
 use Rattle.scan.specs.declared.cursor.Leaf.the-variants.{Value, Bad}
 use Rattle.forms.specs.Types.{typeReference}
 use Rattle.forms.specs.declared.types.Reference.the-variants.{Stored}
-use Rattle.node.specs.Cells.{nodes}
-use Rattle.node.specs.Kind.{NamePlace, TypePlace}
+use Rattle.node.specs.Cells.{nodes, cellOf, KIND, Q}
+use Rattle.node.specs.Kind.{NamePlace, TypePlace, AnonymousId, kindNumber}
+use Rattle.meaning.specs.Tree.{bytesOf}
 use Rattle.grammar.specs.Program.{ret, found, refused, Out, out, Part, Shut, Same, run, at+, anyOf}
-use Rattle.grammar.specs.Words.{byteAt, _>>=_}
+use Rattle.grammar.specs.Words.{byteAt, _>>=_, _>>_, memorizeName}
 use Rattle.grammar.specs.Counts.{Node, Limit, Demand, Log, First, name, shutNodes, readNodes, shutAsking, readAsking, asks}
-use Rattle.grammar.specs.Table.{cellsOf, sameNodes, sameTable, shutTable, readTable}
-use Rattle.grammar.specs.Grammar.{Tag, Ans, Parse, Reading, body, unqualifiedName, nestedName, varType, place, scopeFrom, paramsFrom, templateName}
+use Rattle.grammar.specs.Table.{cellsOf, counted, sameNodes, sameTable, shutTable, readTable}
+use Rattle.grammar.specs.Grammar.{Tag, Ans, Parse, Reading, body, close, unqualifiedName, nestedName, nestedBody, varType, place, scopeFrom, paramsFrom, templateName}
 use Rattle.grammar.specs.declared.State.{State}
 use Rattle.grammar.specs.declared.Refusal.the-variants.{Syntax}
 use Rattle.reader.specs.Whole.{start}
@@ -317,6 +319,15 @@ module _ (T : Type 0) (s : List ℕ) (same : Same T) (shut : Shut T) (rec : Part
     pub scope : (turns last : ℕ) → RecallsName (scopeFrom (suc turns) last) (λ e. place NamePlace e last >>= scopeFrom turns)
     pub params : (turns last : ℕ) → RecallsType (paramsFrom (suc turns) last) (λ e. place TypePlace e last >>= paramsFrom turns)
 
+  -- where `?A` begins a name of a scope and r stands behind it: `?A0x` with no hex digit is refused just after `0x`, and nothing else has changed; with n digits and `@` a node over
+  -- `0x` and the digits is closed, and stored; without `0x` the memo is left as it was
+  pub record Namespaces : Type 0 where
+    pub no-digit : (st : State) (t : T) (r : List ℕ) → drop (st .at) s ≡ bytes "?A0x" ++ r → readHexDigits r ≡ 0 → run s same shut rec nestedBody st t ≡ out (refused Syntax) (at+ 4 st) t
+    pub with-id :
+        (st : State) (t : T) (r : List ℕ) (n : ℕ) → drop (st .at) s ≡ bytes "?A0x" ++ r → 1 ≤ n → readHexDigits r ≡ n → starts (bytes "@") (drop n r) ≡ true →
+        run s same shut rec nestedBody st t ≡ run s same shut rec (close AnonymousId ((st .at + 2) ∷ (n + 2) ∷ []) [] >>= λ a. memorizeName a >> ret a) (at+ (n + 5) st) t
+    pub no-id : (st : State) (t : T) (r : List ℕ) → drop (st .at) s ≡ bytes "?A" ++ r → starts (bytes "0x") r ≡ false → run s same shut rec nestedBody st t .state .memo ≡ st .memo
+
   -- with k more turns, from any state, the reading of a list is the same
   abbrev pub TurnsLast : (ℕ → ℕ → Reading ℕ) → Type 0
   TurnsLast list = (k last : ℕ) (st : State) (t : T) → run s same shut rec (list (length s - st .at + 1 + k) last) st t ≡ run s same shut rec (list (length s - st .at + 1) last) st t
@@ -331,6 +342,25 @@ TemplatesHandBack = OfEachReading HandsBack
 -- A digit yields that entry of the memo as it stands at that moment, and changes nothing but the place (and, in a list, counts its place).
 abbrev pub DigitsRecall : Type 0
 DigitsRecall = OfEachReading Digits
+
+-- M-100. An anonymous namespace without an id is never stored, and an id has a digit.
+abbrev pub NamespacesStored : Type 0
+NamespacesStored = OfEachReading Namespaces
+
+-- Two with different ids are never equal in the memo: what equals one there, in the reading over a table or over a list of nodes, is a namespace with the same id.
+abbrev pub SameId : List ℕ → List ℕ → ℕ → ℕ → Type 0
+SameId t s a b = cellOf t a KIND ≡ kindNumber AnonymousId → (cellOf t b KIND ≡ kindNumber AnonymousId) × (bytesOf t s a ≡ bytesOf t s b)
+
+abbrev pub IdsApart : Type 0
+IdsApart =
+    (s : List ℕ) (used a b : ℕ) →
+    ((t : List ℕ) → sameTable s used t a b ≡ true → SameId (counted used t) s a b) × ((ns : List Node) → sameNodes s used ns a b ≡ true → SameId (cellsOf ns) s a b)
+
+-- Each id among the nodes that an answered call leaves, or one whose text is cut, has a digit behind its `0x`. (A lent table may have one with none: its form is as it was.)
+abbrev pub IdsHaveDigits : Type 0
+IdsHaveDigits =
+    (f depth : ℕ) (s t b : List ℕ) → says (0 ∷ 6 ∷ []) (demangled f depth s t (length b)) ≡ true →
+    (n : ℕ) → n < own s .state .used → cellOf (tableAfter f depth s t) n KIND ≡ kindNumber AnonymousId → 3 ≤ cellOf (tableAfter f depth s t) n Q
 
 -- The turns that the grammar gives a list never run out.
 abbrev pub ListsEnd : Type 0
@@ -470,6 +500,9 @@ pub record Promises : Type 0 where
   pub rejects : Rejects
   pub templates-hand-back : TemplatesHandBack
   pub digits-recall : DigitsRecall
+  pub namespaces-stored : NamespacesStored
+  pub ids-apart : IdsApart
+  pub ids-have-digits : IdsHaveDigits
   pub lists-end : ListsEnd
   pub more-answered : MoreAnswered
   pub more-refused : MoreRefused

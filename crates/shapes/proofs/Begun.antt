@@ -6,7 +6,7 @@ use mathlib.Core.Bool.{Bool, true, false}
 use native.Mathlib.Omega.{arith}
 use lib.ListN.{length, drop, length-drop}
 use lib.Dec.{eqb}
-use borrow.Author.Tests.{le-leb, lt-leb}
+use borrow.Author.Tests.{le-leb, lt-leb, eq-eqb, ne-eqb}
 use Rattle.scan.specs.Bytes.{pick, bytes, starts, spelled}
 use Rattle.scan.specs.Name.{readHexDigits}
 use Rattle.strings.specs.Encoded.{readEncodedString}
@@ -19,7 +19,7 @@ use Rattle.forms.specs.declared.begins.SymbolStart.{SymbolStart}
 use Rattle.forms.specs.declared.begins.NameForm.the-variants as name
 use Rattle.forms.specs.declared.begins.NameStart.{NameStart}
 use Rattle.grammar.specs.Program.{fail, sub, node, ret, run}
-use Rattle.grammar.specs.Words.{ordered, atEnd, hexDigits}
+use Rattle.grammar.specs.Words.{ordered, atEnd, refuseIf, hexDigits}
 use Rattle.node.specs.Kind.{None}
 use Rattle.grammar.specs.Table.{shutTable, sameTable, readTable}
 use Rattle.grammar.specs.Grammar.{Reading, body, close, parseOf, symbolTypeOf, symbolTypeBody, memberFunction, nestedOf, nestedBody, plainName, charsIs, encodedString}
@@ -29,7 +29,7 @@ use Rattle.steps.specs.Does.{full, Lent, further, does, Meets, Leads}
 use Rattle.steps.specs.declared.state.Spot.{Spot}
 use Rattle.steps.specs.declared.state.Value.the-variants.{Is, Bad}
 use Rattle.steps.specs.declared.state.Took.{Took}
-use Rattle.steps.proofs.Leads.{leads-refl, leads-look, leads-when, leads-else, leads-expects, leads-ordered}
+use Rattle.steps.proofs.Leads.{leads-refl, leads-on, leads-look, leads-when, leads-else, leads-ret, leads-sub, leads-fail, leads-expects, leads-ordered}
 use Rattle.shapes.specs.Shapes.{nameFormOf, shapeName}
 use Rattle.shapes.specs.declared.names.NameShape.the-variants.{Parsed}
 
@@ -97,6 +97,13 @@ module _ {s : List ℕ} {st : Spot} where
   pub leads-hex : {A : Type 0} {k : ℕ → Reading A} {q : Reading A} {n : ℕ} {st′ : Spot} → n ≡ readHexDigits (drop (st .at) s) → Leads s (k n) (further n st) q st′ → Leads s (sub hexDigits k) st q st′
   unfolding run
   leads-hex e a = record { is = λ limit room d t. rw (sym e) (a .is limit room d t) }
+
+  -- a number of digits that may not be none
+  pub leads-refused : {A : Type 0} {k : Unit {0} → Reading A} {n : ℕ} → n ≡ 0 → Leads s (sub (refuseIf (eqb n 0)) k) st fail st
+  leads-refused {n = n} e = leads-on (leads-sub (leads-when (eq-eqb n 0 e) leads-refl)) leads-fail
+
+  pub leads-passed : {A : Type 0} {k : Unit {0} → Reading A} {q : Reading A} {n : ℕ} {st′ : Spot} → (n ≡ 0 → ⊥) → Leads s (k tt) st q st′ → Leads s (sub (refuseIf (eqb n 0)) k) st q st′
+  leads-passed {n = n} e a = leads-on (leads-sub (leads-else (ne-eqb n 0 e) leads-refl)) (leads-ret a)
 
   -- an encoded string: a node with the range of its characters, or none
   pub leads-chars :

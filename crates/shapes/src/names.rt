@@ -58,12 +58,17 @@ fn plain_shape(s: &[u8], st: Spot) -> NameShaped
     }
 }
 
+// A namespace by its id. Without a digit two could not be told apart.
 fn anonymous_id(s: &[u8], st: Spot) -> NameShaped
     requires { ⌜ Short (now s) ⌝ }
     ensures { λ r. ⌜ Leads (now (s .entry)) (nestedOf AnonymousId) st (shapeName (r .shape)) (r .state) ⌝ }
 {
     let n = scan::name::read_hex_digits(s, st.at as usize);
-    let e = expect(b"@", s, past(st, n));
+    let behind = past(st, n);
+    if n == 0 {
+        return shaped(NameShape::Refused, behind);
+    }
+    let e = expect(b"@", s, behind);
     let v = e.value;
     match v {
         Value::Is(_) => shaped(
