@@ -85,6 +85,20 @@ fn an_anonymous_namespace_has_a_digit_in_its_id_or_no_id() {
     assert_eq!(consumed(b"?@?A@@"), Ok(6));
 }
 
+/// No reading leaves one, but what a table's form asks for is as it was.
+#[test]
+fn a_lent_id_with_no_digit_is_well_formed() {
+    const ANONYMOUS_ID: u32 = 15;
+    const LENGTH: usize = 8;
+    let symbol = b"?@?A0x0@@";
+    let (mut nodes, mut text) = (nodes(symbol), vec![OLD_BYTE; 256]);
+    let id = &mut nodes[node_cells()..];
+    assert_eq!((id[0], id[LENGTH]), (ANONYMOUS_ID, 3));
+    id[LENGTH] = 2;
+    let counts = write(symbol, 0, DEEPEST, &nodes, &mut text).expect("the table is well formed");
+    assert_eq!(&text[..counts.text], b"`anonymous namespace'::");
+}
+
 #[test]
 fn refusals_before_reading_change_nothing_and_come_in_order() {
     let (mut table, mut text) = buffers(64 * node_cells(), 256);
