@@ -52,15 +52,13 @@ pub fn refuses_escape(symbol: &str, offset: usize) -> bool {
     wrong && (0..128).all(|byte| end_behind(before, byte) == offset)
 }
 
-/// The first and the last of each range of hex digits, and the bytes beside them; `@` is one.
-const AROUND_HEX: &[u8] = b"/09:@AFG`afg";
-
 /// Whether the refusal stands between the `?A0x` and the `@` of a namespace, where the product asks
-/// for a digit and the crate reads on. Only there, behind these bytes, it takes hex digits, `@` and
-/// no other byte.
+/// for a digit and the crate reads on. Only there, behind these bytes, it takes a digit and an `@`,
+/// but no `g`: a plain name with no `@` is refused at its start, and a string takes the `g`.
 pub fn refuses_id(symbol: &str, offset: usize) -> bool {
     let (before, behind) = symbol.split_at(offset);
-    let takes = |byte: u8| usize::from(byte == b'@' || byte.is_ascii_hexdigit());
-    let as_there = |byte: &u8| end_behind(before, *byte) == offset + takes(*byte);
-    before.ends_with("?A0x") && behind.starts_with('@') && AROUND_HEX.iter().all(as_there)
+    let next = [(b'g', offset), (b'0', offset + 1), (b'@', offset + 1)];
+    before.ends_with("?A0x")
+        && behind.starts_with('@')
+        && next.iter().all(|(byte, end)| end_behind(before, *byte) == *end)
 }

@@ -336,9 +336,7 @@ impl Generator {
         }
         let from = self.text.len();
         self.write("?A0x");
-        // Few ids have no digit: such a symbol is refused there.
-        let digits = if self.random.one_in(16) { 0 } else { 1 + self.random.below(3) };
-        for _ in 0..digits {
+        for _ in 0..self.random.below(4) {
             self.letter(HEX);
         }
         self.write("@");
