@@ -2,10 +2,11 @@
 use crate::answers::{self, Answer};
 use crate::fault::NUMBER;
 use crate::limits::{DEEP, SYNTAX};
+use crate::model::Demands;
 
 const DEEPER: &str = "deeper than 200";
 const ESCAPE: &str = "refused by the rule for `?$`";
-const NO_DIGIT: &str = "refused behind a namespace's `?A0x` with no digit";
+const NO_DIGIT: &str = "a namespace's `?A0x` with no digit";
 
 /// How the crate stands to a refusal.
 pub enum Refusal {
@@ -16,10 +17,11 @@ pub enum Refusal {
     Different(String),
 }
 
-/// Why the crate is not asked about a symbol that is refused so: it reads on, and what it copies
-/// behind that offset the model does not count.
-pub fn unasked(symbol: &str, (number, offset): (u64, usize)) -> Option<&'static str> {
-    (number == SYNTAX && answers::refuses_id(symbol, offset)).then_some(NO_DIGIT)
+/// Why the crate is not asked about a symbol: where the model ends, at an id with no digit, it reads
+/// on, and what it copies there nobody counts.
+pub fn unasked(symbol: &str, demands: &Demands) -> Option<&'static str> {
+    let (number, end, _) = demands.within(usize::MAX, usize::MAX);
+    (number == SYNTAX && answers::refuses_id(symbol, end)).then_some(NO_DIGIT)
 }
 
 /// The product refuses with this number at this offset, and the crate answers so.

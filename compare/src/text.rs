@@ -117,12 +117,8 @@ impl Comparison {
 
     /// Whether the crate refuses the symbol there, too.
     fn compare_offset(&mut self, symbol: &str, reading: Report) {
-        let refusal = (reading.number, reading.offset);
-        if let Some(reason) = refusals::unasked(symbol, refusal) {
-            return self.tally.left_out.add(reason);
-        }
         let (theirs, trap) = answers::decided(symbol);
-        match refusals::judge(symbol, refusal, theirs) {
+        match refusals::judge(symbol, (reading.number, reading.offset), theirs) {
             Refusal::Same => {
                 self.tally.refusals += 1;
                 trap.into_iter().for_each(|trap| self.tally.traps.add(trap));
@@ -210,6 +206,9 @@ impl Comparison {
         }
         if demands.too_heavy() {
             return self.tally.left_out.add("too heavy for the crate");
+        }
+        if let Some(reason) = refusals::unasked(symbol, &demands) {
+            return self.tally.left_out.add(reason);
         }
         if reading.number != ACCEPTED {
             return self.compare_offset(symbol, reading);

@@ -63,7 +63,7 @@ pub fn compare(symbol: &str, table: &mut [u32]) -> (Verdict, Option<String>) {
     if demands.too_heavy() {
         return (Verdict::LeftOut("too heavy for the crate"), None);
     }
-    if let Some(reason) = refusals::unasked(symbol, ours.answer()) {
+    if let Some(reason) = refusals::unasked(symbol, &demands) {
         return (Verdict::LeftOut(reason), None);
     }
     let (theirs, tree, trap) = match decided(symbol) {

@@ -39,13 +39,13 @@ pub fn printed(line: &[u8]) -> Result<Printed, String> {
     match number {
         ACCEPTED | SYNTAX if demands.too_heavy() => Err("too heavy for the crate".to_string()),
         ACCEPTED => accepted(symbol, offset),
-        SYNTAX => no_derivation(symbol, offset),
+        SYNTAX => no_derivation(symbol, offset, &demands),
         _ => Ok(refused(number, offset, None)),
     }
 }
 
-fn no_derivation(symbol: &str, offset: usize) -> Result<Printed, String> {
-    if let Some(rule) = refusals::unasked(symbol, (SYNTAX, offset)) {
+fn no_derivation(symbol: &str, offset: usize, demands: &Demands) -> Result<Printed, String> {
+    if let Some(rule) = refusals::unasked(symbol, demands) {
         return Ok(refused(SYNTAX, offset, Some(rule.to_string())));
     }
     let (theirs, trap) = answers::decided(symbol);
