@@ -42,7 +42,7 @@ use Rattle.node.specs.Cells.{nodes, cellOf, heightAt, KIND, Q}
 use Rattle.form.specs.Form.{wellFormed}
 use Rattle.grammar.specs.Program.{ret, part, Reply, found, Out, out, Same}
 use Rattle.grammar.specs.Words.{_⇒_∥_, expect, leaf, class, nameOf}
-use Rattle.node.specs.Kind.{Kind, NamePlace, TypePlace, Ptr, Ref, RValueRef, Struct, Union, Class, Enum, Basic, kindNumber, ParseResult, AnonymousId}
+use Rattle.node.specs.Kind.{Kind, NamePlace, TypePlace, Ptr, Ref, RValueRef, Struct, Union, Class, Enum, Basic, kindNumber, ParseResult, AnonymousId, Anonymous}
 use Rattle.grammar.specs.Grammar.{Tag, Parse, OuterMd5, OuterTemplate, OuterGuard, MdFive, OuterName, SymbolType, NoType, GuardType, Name, Unqualified, Nested, VarType, Func, Dimension, Variadic, NoParams, NoReturn, Ans, Reading, close, emptyMemo, place, name′, stored, unqualifiedName, nestedName, referenceOr, varType, scopeFrom, scope, listEnd, storedParam, newParam, paramsFrom, params, funcParams, templateName, plainName, rttiTypeDescriptor, rttiBaseClassDescriptor, specialName, unqualifiedBody, nestedOf, nestedBody, nameBody, pointee, element, nestedArray, dimensions, array, funcReturnType, funcType, memberClasses, memberFunctionPointer, named, pointing, letterType, noLetter, plainType, formType, varTypeBody, charsIs, encodedString, memberFunction, symbolTypeOf, symbolTypeBody, indexAndOne, guardIndex, parsed, parseOf, body}
 use Rattle.grammar.specs.Counts.{Node, heightOf, rises, readNodes}
 use Rattle.grammar.specs.Table.{cellsOf, sameNodes, readTable}
@@ -50,7 +50,7 @@ use Rattle.grammar.specs.declared.State.{State}
 use Rattle.grammar.proofs.Leaves.{unsigned-fits, string-fits, string-least, hex-fits, guard-number-fits, md5-fits, md5-least, calling-conv-fits, func-class-fits, return-class-fits, string-width-fits, guard-marker-fits, operator-fits, storage-class-fits, qualifier-fits, func-qualifiers-fits, ReferenceFits, reference-fits, EncodedFits, encoded-fits}
 use Rattle.grammar.proofs.Table.{Holds, Agree, reads-agree}
 use Rattle.grammar.proofs.Bounds.{number-below, unsigned-below, guard-number-below, calling-conv-below, func-class-below, operator-below, return-class-below, storage-class-bound, qualifier-bound, func-qualifiers-bound}
-use Rattle.grammar.proofs.Rows.{kindAt, Known, known-none, rowOf, wider, empty, ref, isId, cell-kind, height-cells, well-formed, ids-long}
+use Rattle.grammar.proofs.Rows.{kindAt, Known, known-none, rowOf, wider, empty, ref, isId, cell-kind, height-cells, well-formed, ids-long, never-idless}
 use Rattle.grammar.proofs.Calm.{Calm, is, refuses, either, unless, seen, if, next, valued, leaves, spanned, classed, counted}
 use Rattle.grammar.proofs.Sound.{World, world, Stored, Good, Post, Ended, Ends, Setting, Sound, since, still, NodeIs, LastIs, ListIs, ends, fails, looks, chooses, then, through, opens, skips, inside, says, widens, reads, heres, remembers, replaces, on, digits, orders, shuts-last, shuts-by, shuts, name-refs, name-refs-here, no-names, type-refs, stores, stores-if, stores-unless, reads-sound}
 use Rattle.scan.specs.Limits.{Short}
@@ -573,13 +573,14 @@ module _ (x : Setting Asks Gives) (short : length (x .symbol) ≤ kind.any) wher
   body-ok NoParams a = reads (expects "X") (λ u. shuts refl (empty refl) (omega arith))
   body-ok NoReturn a = reads (expects "@") (λ u. shuts refl (empty refl) (omega arith))
 
--- what a reading leaves that answers with n: a well-formed table, whatever stands behind it; its last node is the root, a ParseResult; each id has a digit; the counts are its nodes and its height
+-- what a reading leaves that answers with n: a well-formed table, whatever stands behind it; its last node is the root, a ParseResult; each id has a digit, and no name that is stored is a namespace without an id; the counts are its nodes and its height
 pub record Whole (s : List ℕ) (n : ℕ) (st : State) (ns : List Node) : Type 0 where
   pub formed : wellFormed (cellsOf ns) (length s) (length ns) ≡ true
   pub held : (tail : List ℕ) → wellFormed (cellsOf ns ++ tail) (length s) (length ns) ≡ true
   pub last : n + 1 ≡ length ns
   pub root : kindAt ns n ≡ kindNumber ParseResult
   pub ids : (tail : List ℕ) (i : ℕ) → i < length ns → cellOf (cellsOf ns ++ tail) i KIND ≡ kindNumber AnonymousId → 3 ≤ cellOf (cellsOf ns ++ tail) i Q
+  pub named : (tail : List ℕ) (i : ℕ) → i < st .memo .«names_len» → cellOf (cellsOf ns ++ tail) (getD (st .memo .names) i 0) KIND ≡ kindNumber Anonymous → ⊥
   pub used : st .used ≡ length ns
   pub deep : st .deep ≡ heightOf ns (n + 1)
 
@@ -590,6 +591,7 @@ whole s w n w′ d e = record {
   last = e .holds .1;
   root = e .holds .2;
   ids = λ tail i l k. ids-long (length s) tail [] (w′ .nodes) (e .good .formed) i l k;
+  named = λ tail i l k. never-idless tail (w′ .nodes) _ (e .good .memo .name i l) k;
   used = e .good .used;
   deep = omega (arith, e .shallow, e .holds .0 .high, e .good .low (n + 1));
 }

@@ -3,6 +3,7 @@
 --     NodeOk        a node is formed, over the nodes before it
 --     well-formed   a list of formed nodes is a well-formed table, whatever cells stand behind it
 --     ids-long      and every id in it has a digit
+--     never-idless  and a name that may be stored is no namespace without an id
 -- Assumes nothing.
 use Prim.Native.Nat.{ℕ, zero, suc, _+_, _-_, _*_, _/_, _%_, _<_, _≤_, max}
 use mathlib.Core.Path.{_≡_, refl, sym, ap, _∙_}
@@ -17,8 +18,8 @@ use lib.Seq.{getD-append-add, append-snoc}
 use lib.Dec.{ltb, leb, eqb}
 use borrow.Author.Tests.{eqb-true, lt-ltb, le-ltb, le-leb, eq-eqb, ne-eqb}
 use Rattle.node.specs.Cells as table
-use Rattle.node.specs.Kind.{kindNumber, AnonymousId}
-use Rattle.form.specs.Kinds.{nothing, shapes, shapeOf}
+use Rattle.node.specs.Kind.{kindNumber, AnonymousId, Anonymous}
+use Rattle.form.specs.Kinds.{nothing, plain, scoped, shapes, shapeOf}
 use Rattle.form.specs.Form.{fits, refOk, refsOk, numberOk, numbersOk, rangeOk, restOk, heightOk, nodeOk, wellFormed}
 use Rattle.form.proofs.Formed.{formed-more}
 use Rattle.scan.specs.Bytes.{pick}
@@ -428,3 +429,14 @@ ids-long long tail front (n ∷ ns) f zero l e =
 ids-long long tail front (n ∷ ns) f (suc i) l e =
     let next = next-cell (cellsAt n) (cellsOf ns ++ tail) refl i in
     rw (next table.Q) (ids-long long tail (front ++ (n ∷ [])) ns (f .1) i (omega arith) (sym (next table.KIND) ∙ e))
+
+-- a name that may be stored is no namespace without an id, whose class is another
+idless-misfits : (kind : ℕ) → kind ≡ kindNumber Anonymous → fits (plain + scoped) (shapeOf kind 0) ≡ true → ⊥
+unfolding fits shapeOf
+idless-misfits kind e f = true-false (sym (rw e at f))
+
+pub never-idless : (tail : List ℕ) (ns : List Node) (n : ℕ) → fits (plain + scoped) (classAt ns (n + 1)) ≡ true → table.cellOf (cellsOf ns ++ tail) n table.KIND ≡ kindNumber Anonymous → ⊥
+never-idless tail ns n f e =
+    let next : n + 1 ≡ suc n = omega arith in
+    let fit : fits (plain + scoped) (classAt ns (suc n)) ≡ true = rw next at f in
+    idless-misfits (kindAt ns n) (sym (cell-kind tail ns n (class-inside (plain + scoped) ns (suc n) fit)) ∙ e) fit

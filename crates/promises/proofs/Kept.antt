@@ -49,6 +49,7 @@ kept = record {
   templates-hand-back = memos.templates-hand-back;
   digits-recall = memos.digits-recall;
   namespaces-stored = namespaces.namespaces-stored;
+  stored-have-ids = namespaces.stored-have-ids;
   ids-apart = namespaces.ids-apart;
   ids-have-digits = namespaces.ids-have-digits;
   lists-end = memos.lists-end;

@@ -6,7 +6,7 @@ use mathlib.Core.List.{List, [], _∷_, _++_}
 use native.Mathlib.Omega.{arith}
 use native.Mathlib.Nat.{add-zero}
 use borrow.Author.Tests.{ne-eqb}
-use lib.ListN.{length, drop}
+use lib.ListN.{length, drop, getD}
 use lib.Seq.{drop-drop}
 use Rattle.scan.specs.Bytes.{pick, bytes, starts}
 use Rattle.scan.specs.Name.{readHexDigits}
@@ -27,7 +27,7 @@ use Rattle.grammar.proofs.Funded.{true-false}
 use Rattle.farthingmoss.specs.declared.Answer.{Answer}
 use Rattle.farthingmoss.specs.declared.Answer.the-variants.{Answered, NoSymbol, NotAscii, NoDerivation, TooDeep, NoNode, NoRoom, BadCall, BadTable}
 use Rattle.farthingmoss.specs.Call.{demangled, tableAfter}
-use Rattle.promises.specs.Promises.{own, ownNodes, Within, says, Namespaces, NamespacesStored, SameId, IdsApart, IdsHaveDigits}
+use Rattle.promises.specs.Promises.{own, ownNodes, Within, says, Namespaces, NamespacesStored, StoredHaveIds, SameId, IdsApart, IdsHaveDigits}
 use Rattle.promises.proofs.Memos.{of-each}
 use Rattle.promises.proofs.Reading.{within-formed}
 use Rattle.promises.proofs.Grammar.{accepted, spilled}
@@ -126,12 +126,16 @@ pub ids-apart : IdsApart
 unfolding sameTable sameNodes
 ids-apart s used a b = ((λ t e. same-id _ s a b e), (λ ns e. same-id (cellsOf ns) s a b e))
 
+-- what a table that a reading answered in says of namespaces
 module _ (f depth : ℕ) (s t b : List ℕ) where
-  abbrev Told : Type 0
-  Told = (n : ℕ) → n < own s .state .used → cellOf (tableAfter f depth s t) n KIND ≡ kindNumber AnonymousId → 3 ≤ cellOf (tableAfter f depth s t) n Q
+  record Told : Type 0 where
+    digit : (n : ℕ) → n < own s .state .used → cellOf (tableAfter f depth s t) n KIND ≡ kindNumber AnonymousId → 3 ≤ cellOf (tableAfter f depth s t) n Q
+    named : (i : ℕ) → i < own s .state .memo .«names_len» → cellOf (tableAfter f depth s t) (getD (own s .state .memo .names) i 0) KIND ≡ kindNumber Anonymous → ⊥
 
   told : (tail : List ℕ) (root : ℕ) → Within f depth s t → own s .reply ≡ found root → tableAfter f depth s t ≡ cellsOf (ownNodes s) ++ tail → Told
-  told tail root h d left n l k = let w = within-formed h root d in rw left (w .ids tail n (omega (arith, w .used)) (rw left at k))
+  told tail root h d left =
+      let w = within-formed h root d in
+      record { digit = λ n l k. rw left (w .ids tail n (omega (arith, w .used)) (rw left at k)); named = λ i l k. w .named tail i l (rw left at k) }
 
   told-by : (a : Answer) → demangled f depth s t (length b) ≡ a → says (0 ∷ 6 ∷ []) a ≡ true → Told
   told-by (Answered c) e h = let is = accepted f depth s t (length b) e in told _ (is .root) (is .holds) (is .derives) (answered-leaves f depth s t b c e .2)
@@ -145,4 +149,7 @@ module _ (f depth : ℕ) (s t b : List ℕ) where
   told-by BadTable e h = true-false (sym h)
 
 pub ids-have-digits : IdsHaveDigits
-ids-have-digits f depth s t b h = told-by f depth s t b _ refl h
+ids-have-digits f depth s t b h = told-by f depth s t b _ refl h .digit
+
+pub stored-have-ids : StoredHaveIds
+stored-have-ids f depth s t b h = told-by f depth s t b _ refl h .named

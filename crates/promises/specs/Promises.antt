@@ -18,7 +18,7 @@ use Rattle.scan.specs.declared.cursor.Leaf.the-variants.{Value, Bad}
 use Rattle.forms.specs.Types.{typeReference}
 use Rattle.forms.specs.declared.types.Reference.the-variants.{Stored}
 use Rattle.node.specs.Cells.{nodes, cellOf, KIND, Q}
-use Rattle.node.specs.Kind.{NamePlace, TypePlace, AnonymousId, kindNumber}
+use Rattle.node.specs.Kind.{NamePlace, TypePlace, AnonymousId, Anonymous, kindNumber}
 use Rattle.meaning.specs.Tree.{bytesOf}
 use Rattle.grammar.specs.Program.{ret, found, refused, Out, out, Part, Shut, Same, run, at+, anyOf}
 use Rattle.grammar.specs.Words.{byteAt, _>>=_, _>>_, memorizeName}
@@ -343,9 +343,15 @@ TemplatesHandBack = OfEachReading HandsBack
 abbrev pub DigitsRecall : Type 0
 DigitsRecall = OfEachReading Digits
 
--- M-100. An anonymous namespace without an id is never stored, and an id has a digit.
+-- M-100. Of anonymous namespaces those with an id are stored, which has a digit, and no others.
 abbrev pub NamespacesStored : Type 0
 NamespacesStored = OfEachReading Namespaces
+
+-- Whoever stores a name: the symbol's own memo holds no namespace without an id when a call answers, or when its text is cut.
+abbrev pub StoredHaveIds : Type 0
+StoredHaveIds =
+    (f depth : ℕ) (s t b : List ℕ) → says (0 ∷ 6 ∷ []) (demangled f depth s t (length b)) ≡ true →
+    (i : ℕ) → i < own s .state .memo .«names_len» → cellOf (tableAfter f depth s t) (getD (own s .state .memo .names) i 0) KIND ≡ kindNumber Anonymous → ⊥
 
 -- Two with different ids are never equal in the memo: what equals one there, in the reading over a table or over a list of nodes, is a namespace with the same id.
 abbrev pub SameId : List ℕ → List ℕ → ℕ → ℕ → Type 0
@@ -501,6 +507,7 @@ pub record Promises : Type 0 where
   pub templates-hand-back : TemplatesHandBack
   pub digits-recall : DigitsRecall
   pub namespaces-stored : NamespacesStored
+  pub stored-have-ids : StoredHaveIds
   pub ids-apart : IdsApart
   pub ids-have-digits : IdsHaveDigits
   pub lists-end : ListsEnd
