@@ -105,6 +105,13 @@ static void named(void) {
     check(strcmp(names, "std complex ") == 0, names);
 }
 
+static void closed(void) {
+    static const char array[] = "void __cdecl f(int (&&)[3])";
+    read_symbol("?f@@YAX$$QAY02H@Z", FARTHINGMOSS_DEEPEST, NODES * CELLS, ROOM);
+    check(report[4] == strlen(array), "the length of an rvalue reference to an array");
+    check(memcmp(text, array, strlen(array)) == 0, "its text, with the dimension");
+}
+
 static void cut(void) {
     read_symbol("?x@@3HA", FARTHINGMOSS_DEEPEST, NODES * CELLS, 4);
     check_report(FARTHINGMOSS_NO_ROOM, 7, 3, 5, 4, "a text without room");
@@ -155,6 +162,7 @@ int main(void) {
     answered();
     written_alone();
     named();
+    closed();
     cut();
     refused();
     refused_before_reading();

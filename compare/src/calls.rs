@@ -8,6 +8,8 @@
 //! symbol a line. Large ones are passed over.
 mod asking;
 mod budgets;
+mod by_copy;
+mod by_crate;
 mod damage;
 mod decode;
 mod enums;
@@ -15,7 +17,6 @@ mod flags;
 mod formed;
 mod gates;
 mod generate;
-mod grown;
 mod known;
 mod limits;
 mod made;
@@ -35,7 +36,6 @@ use std::process::ExitCode;
 use std::{env, fs, io};
 
 use flags::FlagWords;
-use grown::Operators;
 use known::Known;
 use random::Random;
 use tables::Tables;
@@ -98,6 +98,7 @@ impl Comparison {
             return self.left_out.add("many nodes or a long text");
         }
         self.symbols += 1;
+        self.trials.add_text(known.own);
         budgets::try_all(&mut self.trials, &known, &mut self.random);
         if known.is_accepted() {
             self.compare_tables(&known);
@@ -124,7 +125,7 @@ fn compare(count: usize, trial: &Path, lists: Option<String>) -> io::Result<bool
         trials: Trials::default(),
         words: FlagWords::new(),
         random: Random::new(SEED),
-        tables: Tables { operators: Operators::new(), random: Random::new(SEED) },
+        tables: Tables::new(Random::new(SEED)),
         symbols: 0,
         accepted: 0,
         small: 0,

@@ -1,6 +1,7 @@
-//! The crate's tree of any well-formed table, as `docs/NODES.md` says what a kind holds, and its text.
-use unchecked::{
-    CallingConv, DemangleFlags, FuncClass, Name, NameSequence, Operator, Params, ParseResult,
+//! The crate's tree of any well-formed table, as `docs/NODES.md` says what a kind holds, and its text:
+//! in the types of the build that the module above names.
+use super::demangler::{
+    self, CallingConv, DemangleFlags, FuncClass, Name, NameSequence, Operator, Params, ParseResult,
     StorageClass, Symbol, Type, VarStorageKind,
 };
 
@@ -29,7 +30,7 @@ impl Operators {
 
 /// The operator that a symbol is named by. Those with operands are other kinds of nodes.
 fn numbered(symbol: &'static str) -> Option<(u64, Operator<'static>)> {
-    match unchecked::parse(symbol).ok()?.symbol.name {
+    match demangler::parse(symbol).ok()?.symbol.name {
         Name::Operator(operator) => {
             Some((enums::operator(&operator)?, operator)).filter(|(number, _)| *number < 75)
         }
@@ -44,7 +45,7 @@ pub fn text(operators: &Operators, symbol: &[u8], table: &[u32], flags: u32) -> 
     }
     let nodes = formed::nodes(table);
     let tree = Grown { operators, symbol, nodes }.parsed(nodes.len() as u32);
-    unchecked::serialize(&tree, DemangleFlags::from_bits_retain(flags)).into_bytes()
+    demangler::serialize(&tree, DemangleFlags::from_bits_retain(flags)).into_bytes()
 }
 
 struct Grown<'a> {

@@ -6,7 +6,7 @@ use crate::formed;
 use crate::limits::{ACCEPTED, CELLS, DEEP, DEEPEST, LONGEST};
 use crate::model::Demands;
 use crate::shape::Shape;
-use crate::texts::Texts;
+use crate::texts::{Text, Texts};
 use crate::trials::{Call, Outcome};
 use crate::writing::{self, Report, CUT, OUTSIDE};
 
@@ -65,6 +65,8 @@ pub struct Known<'a> {
     /// The nodes and the text of an accepted symbol.
     pub nodes: Vec<u32>,
     pub text: Vec<u8>,
+    /// Whether the text, the copy's, is the crate's, too.
+    pub own: bool,
 }
 
 impl<'a> Known<'a> {
@@ -73,7 +75,7 @@ impl<'a> Known<'a> {
     pub fn of(symbol: &'a str, flags: u32) -> Result<Option<Known<'a>>, String> {
         let demands = Demands::of(symbol.as_bytes());
         let (nodes, text) = (Vec::new(), Vec::new());
-        let mut known = Known { symbol: symbol.as_bytes(), flags, demands, nodes, text };
+        let mut known = Known { symbol: symbol.as_bytes(), flags, demands, nodes, text, own: true };
         let all = known.demands.within(usize::MAX, usize::MAX);
         if known.demands.too_heavy() {
             return Ok(None);
@@ -83,7 +85,9 @@ impl<'a> Known<'a> {
             if texts.consumed != all.1 {
                 return Err(format!("{} bytes consumed by the crate", texts.consumed));
             }
-            known.text = texts.text(flags).0.into_bytes();
+            let (Text { own, mended }, _) = texts.text(flags);
+            known.own = own == mended;
+            known.text = mended.into_bytes();
             known.nodes = nodes_of(symbol)?;
         }
         Ok(Some(known))

@@ -7,7 +7,7 @@
 //! where one decides, the bounds of depth, nodes, room, length and bytes, real symbols of CORPORA
 //! and symbols made from the grammar, half of them damaged. The crate with its checks decides; where
 //! it traps, the crate without them; the plain model gives the refusals that the crate does not know,
-//! and the offsets of bad numbers.
+//! and the offsets of bad numbers; the crate's mended copy gives the texts.
 mod answers;
 #[path = "list/bounds.rs"]
 mod bounds;

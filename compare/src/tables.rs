@@ -1,11 +1,11 @@
 //! The writer alone and the name question, on tables that a reading left and on others.
 use crate::formed::{self, NON_TEMPLATE};
-use crate::grown::{self, Operators};
 use crate::known::{self, Known, BAD_TABLE};
 use crate::limits::{ACCEPTED, CELLS, DEEPEST};
 use crate::random::Random;
 use crate::trials::{Call, Trials};
 use crate::writing::Report;
+use crate::{by_copy, by_crate};
 
 /// What a damaged cell may hold; also what it held, one more, one less and with its lowest bit turned.
 const VALUES: [u32; 14] =
@@ -17,14 +17,21 @@ const NO_NODE: [u32; CELLS] = [0xF1E2_D3C4; CELLS];
 const ZEROS: [u32; CELLS] = [0; CELLS];
 
 pub struct Tables {
-    pub operators: Operators,
+    copy: by_copy::Operators,
+    own: by_crate::Operators,
     pub random: Random,
 }
 
 impl Tables {
-    /// The writer on any table.
+    pub fn new(random: Random) -> Tables {
+        Tables { copy: by_copy::Operators::new(), own: by_crate::Operators::new(), random }
+    }
+
+    /// The writer on any table. Its text is the copy's.
     pub fn write(&self, trials: &mut Trials, kind: &str, call: Call, table: &[u32]) {
-        let text = grown::text(&self.operators, call.symbol, table, call.flags);
+        let text = by_copy::text(&self.copy, call.symbol, table, call.flags);
+        let own = by_crate::text(&self.own, call.symbol, table, call.flags);
+        trials.add_text(own == text);
         let should = known::alone(call, table, &text, ROOM);
         trials.write(kind, call, (table, ROOM), &should);
     }

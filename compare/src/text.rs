@@ -1,13 +1,14 @@
 //! Compares the product with the crate, by one call for each symbol and flag word: the text, the bytes
 //! consumed, the offset of a refusal; and with the plain model, which has the counts, too. A sample
-//! is compared under all flag words, and in every room under one.
+//! is compared under all flag words, and in every room under one. The text is that of the crate's
+//! mended copy; where the crate has another, the pair is counted apart.
 //!
 //! usage: text COUNT SHORT TRIAL [LISTS]
 //!
 //! COUNT symbols are made from the grammar, half of them damaged, and SHORT are the short strings at
 //! each place of a symbol; LISTS is a folder of lists. The crate with its checks decides; where it
 //! traps, the crate without them. TRIAL is the folder of the writer's trial program: its stored
-//! output is held to the crate, too, unless SHORT is 0.
+//! output is held to the crate, too, and hand-picked references are, unless SHORT is 0.
 mod answers;
 mod damage;
 mod exhaustive;
@@ -18,6 +19,7 @@ mod generate;
 mod limits;
 mod model;
 mod random;
+mod references;
 mod refusals;
 mod sources;
 mod tally;
@@ -36,7 +38,7 @@ use limits::{ACCEPTED, CELLS, LONGEST, MOST_NODES};
 use model::Demands;
 use refusals::Refusal;
 use tally::{Differences, Reasons};
-use texts::Texts;
+use texts::{Text, Texts, CLOSED};
 use writing::{Report, OUTSIDE};
 
 /// Room that a text leaves.
@@ -55,6 +57,7 @@ const LONGEST_SAMPLED: usize = 1000;
 struct Tally {
     symbols: usize,
     pairs: usize,
+    apart: usize,
     rooms: usize,
     refusals: usize,
     refused: Reasons,
@@ -66,11 +69,12 @@ struct Tally {
 impl Tally {
     /// Whether there is a difference.
     fn print(&mut self, source: &str) -> bool {
-        let Tally { symbols, pairs, rooms, refusals, .. } = self;
+        let Tally { symbols, pairs, apart, rooms, refusals, .. } = self;
         println!("text, {source}: {} symbols compared with the crate", *symbols + *refusals);
         println!(
             "text, {source}: {symbols} accepted, {pairs} pairs with a flag word have its text; {refusals} refused at its offset"
         );
+        println!("text, {source}: {apart} more pairs have the copy's text, with a {CLOSED}");
         println!(
             "text, {source}: {rooms} calls with every room of one accepted symbol in {SAMPLED}"
         );
@@ -153,16 +157,19 @@ impl Comparison {
         reading: Report,
         every_room: bool,
     ) -> bool {
-        let (text, trap) = texts.text(pair.1);
+        let (Text { own, mended }, trap) = texts.text(pair.1);
         trap.into_iter().for_each(|trap| self.tally.traps.add(trap));
-        let expected = Expected { reading, text: text.as_bytes() };
-        if self.agrees(pair, &expected, MOST_NODES, text.len() + SPARE) {
-            self.tally.pairs += 1;
+        let expected = Expected { reading, text: mended.as_bytes() };
+        if self.agrees(pair, &expected, MOST_NODES, mended.len() + SPARE) {
+            match own == mended {
+                true => self.tally.pairs += 1,
+                false => self.tally.apart += 1,
+            }
         }
-        if every_room && text.len() <= LONGEST_SAMPLED {
+        if every_room && mended.len() <= LONGEST_SAMPLED {
             self.compare_rooms(pair, &expected);
         }
-        text.len() > LONG
+        mended.len() > LONG
     }
 
     fn compare_texts(&mut self, symbol: &str, texts: &Texts, demands: &Demands) {
@@ -254,6 +261,7 @@ fn compare(words: Words) -> io::Result<bool> {
     }
     if short > 0 {
         failed |= trial::differs(Path::new(&trial))?;
+        failed |= references::differs();
         failed |= differs("short strings", exhaustive::symbols(short));
     }
     if count > 0 {

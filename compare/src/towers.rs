@@ -10,6 +10,7 @@ pub const TOWERS: &[Tower] = &[
     Tower("?x@", "??a@", "b@", "@3HA", "@3HA"),
     Tower("?x@@3", "P6AX", "H", "@Z", "A"),
     Tower("?f@@YA", "P6A", "H", "XZ", "XZ"),
+    Tower("?x@@3", "$$QA$$A6A", "H", "XZ", "A"),
     Tower("?x@@3", "$1?f@@YAX", "H", "@Z", "A"),
     Tower("?x@@3", "Y00", "H", "", "A"),
     Tower("??_R0?A", "V?_R0?A", "H", "@", "@8"),

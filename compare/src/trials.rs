@@ -5,6 +5,7 @@ use std::collections::BTreeMap;
 
 use crate::asking;
 use crate::tally::Differences;
+use crate::texts::CLOSED;
 use crate::writing::{self, Report};
 
 /// Cells and bytes behind what is lent.
@@ -62,6 +63,7 @@ type Numbers = [usize; 9];
 #[derive(Default)]
 pub struct Trials {
     made: usize,
+    apart: usize,
     kinds: BTreeMap<String, Numbers>,
     different: Differences,
 }
@@ -75,6 +77,11 @@ fn print_numbers(kind: &str, numbers: &Numbers) {
 impl Trials {
     pub fn differ(&mut self, symbol: &[u8], difference: String) {
         self.different.add(symbol.to_vec(), difference);
+    }
+
+    /// Counts a text that is the crate's own, or only its copy's.
+    pub fn add_text(&mut self, own: bool) {
+        self.apart += usize::from(!own);
     }
 
     /// Counts a call. One that reports a number that is none is a difference anyway.
@@ -153,6 +160,7 @@ impl Trials {
             all.iter_mut().zip(numbers).for_each(|(sum, calls)| *sum += calls);
         }
         print_numbers(&format!("all {}", self.made), &all);
+        println!("calls: {} texts of symbols and tables have a {CLOSED}", self.apart);
         self.different.print("calls")
     }
 }

@@ -85,6 +85,17 @@ fn an_anonymous_namespace_has_a_digit_in_its_id_or_no_id() {
     assert_eq!(consumed(b"?@?A@@"), Ok(6));
 }
 
+#[test]
+fn an_rvalue_reference_closes_what_it_opens() {
+    let (mut table, mut text) = buffers(64 * node_cells(), 256);
+    let mut written = |symbol: &[u8]| {
+        let counts = read(symbol, 0, DEEPEST, &mut table, &mut text).expect("the symbol is read");
+        String::from_utf8_lossy(&text[..counts.text]).into_owned()
+    };
+    assert_eq!(written(b"?f@@YAX$$QA$$A6AXH@Z@Z"), "void __cdecl f(void (__cdecl &&)(int))");
+    assert_eq!(written(b"?f@@YAX$$QAY02H@Z"), "void __cdecl f(int (&&)[3])");
+}
+
 /// No reading leaves one, but what a table's form asks for is as it was.
 #[test]
 fn a_lent_id_with_no_digit_is_well_formed() {

@@ -29,7 +29,7 @@ fn of_nodes(nodes: usize, end: &str) -> Vec<u8> {
 fn of_text(length: usize, end: &str) -> Vec<u8> {
     const REFERENCES: usize = 600;
     let symbol = String::from_utf8(list("", REFERENCES, "@Z")).expect("the list is ASCII");
-    let text = Texts::of(&symbol).expect("the list is a symbol").text(0).0;
+    let text = Texts::of(&symbol).expect("the list is a symbol").text(0).0.mended;
     list(&"n".repeat(length - text.len()), REFERENCES, end)
 }
 

@@ -45,6 +45,18 @@ const NAMESPACES: &str = "
 ?a?A0x@@3HA ?x@a?A0x@@3HA ?x@?Q?A0x@@@3HA ??_C@_02A@?A0x@ ??_C@_03A@?A0x@
 ?x@?A0x1@?A0x2@y@@3Va@3@A ?x@?A0x1@?A0x1@y@@3Va@2@A ?x@?A0xa@?A0xA@y@@3Va@3@A ?x@?A@?A@y@@3Va@1@A";
 
+/// An rvalue reference closes what it opens: to functions, arrays and what has a second half below
+/// it; in lists, templates, returns, nested symbols. Then what stays: it has no second half below it,
+/// or stands in a type descriptor, which writes first halves only, as of a reference.
+const REFERENCES: &str = "
+?f@@YAX$$QA$$A6AXH@Z@Z ?f@@YAX$$QAY02H@Z ?f@@YAX$$QAP6AXXZ@Z ?f@@YAX$$QAP8a@@AEXXZ@Z
+?f@@YAX$$QAY112H@Z ?f@@YAX$$QBY02H@Z ?f@@YAX$$QAPAY02H@Z ?f@@YAX$$QAY02P6AXXZ@Z ?f@@YAX$$QAP8a@@BEHH@Z@Z
+?f@@YAX$$QA$$A8@@EBAXH@Z@Z ?f@@YAX$$QEA$$A6AXH@Z@Z ?f@@YAX$$QA$$A6A$$QAY02HXZ@Z ?f@@YAX$$QA$$QAY02H@Z
+?f@@YAXD$$QAY02HD@Z ?f@@YAX$$QAY02H0@Z ?f@@YAX$$QA$$A6AXH@ZZZ ??$f@$$QA$$A6AXH@Z@@YAXXZ
+?f@@YAXV?$a@$$QAY02H@@@Z ?f@@YA$$QAY02HXZ ?f@@YA$$QA$$A6AXH@ZH@Z ??Ba@@QAE$$QAY02HXZ ?x@@3$$QAY02HA
+?x@@3PA$$QAY02HA ?x@@3Y01$$QAY02HA ?x@??f@@YAX$$QAY02H@Z@3HA
+?f@@YAXAA$$A6AXH@Z@Z ?f@@YAXAAY02H@Z ?f@@YAX$$QAVa@@@Z ?f@@YAX$$QAPAH@Z ??_R0?A$$QAY02H@8 ??_R0?AAAY02H@8";
+
 const TRIED: &str = "
 ??@0123456789abcdefABCDEF012345678@ ??@0123456789abcdefABCDEF0123456789@
 ??@0123456789abcdefABCDEF01234567890@ ??@0123456789abcdefABCDEF0123456789
@@ -134,6 +146,7 @@ pub fn symbols() -> Vec<Vec<u8>> {
     symbols.extend(numbers());
     symbols.extend(words(BAD_NUMBERS).map(|word| word.as_bytes().to_vec()));
     symbols.extend(words(NAMESPACES).map(|word| word.as_bytes().to_vec()));
+    symbols.extend(words(REFERENCES).map(|word| word.as_bytes().to_vec()));
     symbols.extend(words(PRODUCTIONS).map(|word| word.as_bytes().to_vec()));
     symbols
 }

@@ -3,7 +3,7 @@ use crate::answers;
 use crate::limits::{ACCEPTED, DEEPEST, LONGEST, SYNTAX};
 use crate::model::Demands;
 use crate::refusals::{self, Refusal};
-use crate::texts::Texts;
+use crate::texts::{Text, Texts, CLOSED};
 
 /// The program's table and room.
 pub const NODES: usize = 1024;
@@ -61,9 +61,10 @@ fn accepted(symbol: &str, offset: usize) -> Result<Printed, String> {
     if texts.consumed != offset {
         return Err(format!("{} bytes consumed by the crate, not {offset}", texts.consumed));
     }
-    let (text, note) = texts.text(0);
-    match text.len() > ROOM {
+    let (Text { own, mended }, trap) = texts.text(0);
+    let note = if own == mended { trap } else { Some(CLOSED.to_string()) };
+    match mended.len() > ROOM {
         true => Ok(refused(CUT, offset, note)),
-        false => Ok(Printed { line: format!("ok\t{text}"), note }),
+        false => Ok(Printed { line: format!("ok\t{mended}"), note }),
     }
 }

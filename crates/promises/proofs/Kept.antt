@@ -14,6 +14,7 @@ use Rattle.promises.proofs.Gated as gated
 use Rattle.promises.proofs.Digits as digits
 use Rattle.promises.proofs.Memos as memos
 use Rattle.promises.proofs.Namespaces as namespaces
+use Rattle.promises.proofs.References as references
 
 pub kept : Promises
 kept = record {
@@ -53,6 +54,7 @@ kept = record {
   ids-apart = namespaces.ids-apart;
   ids-have-digits = namespaces.ids-have-digits;
   lists-end = memos.lists-end;
+  references-alike = references.references-alike;
   more-answered = budgets.answered-more;
   more-refused = budgets.refused-more;
   cut-begins = budgets.cut-begins;

@@ -13,4 +13,5 @@ pub mod Gated
 pub mod Memos
 pub mod Digits
 pub mod Namespaces
+pub mod References
 pub mod Kept

@@ -18,8 +18,8 @@ use Rattle.scan.specs.declared.cursor.Leaf.the-variants.{Value, Bad}
 use Rattle.forms.specs.Types.{typeReference}
 use Rattle.forms.specs.declared.types.Reference.the-variants.{Stored}
 use Rattle.node.specs.Cells.{nodes, cellOf, KIND, Q}
-use Rattle.node.specs.Kind.{NamePlace, TypePlace, AnonymousId, Anonymous, kindNumber}
-use Rattle.meaning.specs.Tree.{bytesOf}
+use Rattle.node.specs.Kind.{NamePlace, TypePlace, AnonymousId, Anonymous, Ref, RValueRef, kindNumber}
+use Rattle.meaning.specs.Tree.{Tree, node, bytesOf}
 use Rattle.grammar.specs.Program.{ret, found, refused, Out, out, Part, Shut, Same, run, at+, anyOf}
 use Rattle.grammar.specs.Words.{byteAt, _>>=_, _>>_, memorizeName}
 use Rattle.grammar.specs.Counts.{Node, Limit, Demand, Log, First, name, shutNodes, readNodes, shutAsking, readAsking, asks}
@@ -28,6 +28,7 @@ use Rattle.grammar.specs.Grammar.{Tag, Ans, Parse, Reading, body, close, unqual
 use Rattle.grammar.specs.declared.State.{State}
 use Rattle.grammar.specs.declared.Refusal.the-variants.{Syntax}
 use Rattle.reader.specs.Whole.{start}
+use Rattle.serializer.specs.Serializer.{writePre, writePost}
 use Rattle.writer.specs.Written.{textOf}
 use Rattle.gates.specs.declared.Gate.the-variants.{Open}
 use Rattle.farthingmoss.specs.declared.Counts.{Counts}
@@ -372,6 +373,17 @@ IdsHaveDigits =
 abbrev pub ListsEnd : Type 0
 ListsEnd = OfEachReading EnoughTurns
 
+-- M-106. The two halves of a reference and of an rvalue reference to the same type differ in the mark alone, whatever was written before (`l` is its last byte).
+pub record Halves (f : ℕ) (x s : List ℕ) (a b c : Tree) (l : ℕ) : Type 0 where
+  pub before : List ℕ
+  pub behind : List ℕ
+  pub reference : writePre f (node (kindNumber Ref) x s a b c) l ≡ before ++ bytes "&" ++ behind
+  pub rvalue : writePre f (node (kindNumber RValueRef) x s a b c) l ≡ before ++ bytes "&&" ++ behind
+  pub second : writePost f (node (kindNumber RValueRef) x s a b c) l ≡ writePost f (node (kindNumber Ref) x s a b c) l
+
+abbrev pub ReferencesAlike : Type 0
+ReferencesAlike = (f : ℕ) (x s : List ℕ) (a b c : Tree) (l : ℕ) → Halves f x s a b c l
+
 -- DEMAND 3: more room never changes a word, and the reported counts suffice exactly
 
 -- An answer is the same with no less depth, nodes and room: the counts, the text and the nodes.
@@ -511,6 +523,7 @@ pub record Promises : Type 0 where
   pub ids-apart : IdsApart
   pub ids-have-digits : IdsHaveDigits
   pub lists-end : ListsEnd
+  pub references-alike : ReferencesAlike
   pub more-answered : MoreAnswered
   pub more-refused : MoreRefused
   pub cut-begins : CutBegins

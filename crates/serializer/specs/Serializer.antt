@@ -245,7 +245,7 @@ unfoldable mutual
   writeReturn f Tree.none = none
   writeReturn f (node k x s a b c) = writePre f a
 
-  -- the second half of a type; an RValueRef has none
+  -- the second half of a type
   pub writePost : ℕ → Tree → Text
   writePost f Tree.none = none
   writePost f (node k x s a b c) =
@@ -257,6 +257,7 @@ unfoldable mutual
       ∷ (CXXVBTable, writeScope f a ⨾ put "'}}")
       ∷ (Ptr, writeClosing (kindOf a) ⨾ writePost f a)
       ∷ (Ref, writeClosing (kindOf a) ⨾ writePost f a)
+      ∷ (RValueRef, writeClosing (kindOf a) ⨾ writePost f a)
       ∷ (Array, put "[" ⨾ number (q x) ⨾ put "]" ⨾ writePost f a)
       ∷ (Var, writePost f a)
       ∷ (CXXVFTable, unless (isEmpty a) (put "{for `" ⨾ writeScope f a ⨾ put "'}"))

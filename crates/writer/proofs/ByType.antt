@@ -20,7 +20,7 @@ use Rattle.serializer.specs.Serializer.{p, q, kindOf, noReturn, noCast, seriali
 use Rattle.serializer.specs.Pieces.{mark, className, guardOf, castOf}
 use Rattle.serializer.proofs.Nodes.{numbersAt, node-at}
 use Rattle.serializer.proofs.Walks.{guard-not}
-use Rattle.node.specs.Kind.{kindNumber, Alias, AnonymousId, Array, AsInterface, CXXVBTable, CXXVFTable, ConstantString, Enum, Md5, MemberFunction, MemberFunctionPointer, NonMemberFunction, NonTemplate, ParseResult, Ptr, RValueRef, Ref, Struct, VCallThunk, Var}
+use Rattle.node.specs.Kind.{kindNumber, Alias, AnonymousId, Array, AsInterface, CXXVBTable, CXXVFTable, ConstantString, Enum, Md5, MemberFunction, MemberFunctionPointer, NonMemberFunction, NonTemplate, ParseResult, Ptr, RValueRef, Struct, VCallThunk, Var}
 
 -- what is asked for, and what is not
 pub unless-not : {b b′ : List ℕ} {o o′ : ℕ} (e : Bool) (T : Text) → e ≡ false → Wrote T b o b′ o′ → Wrote (unless e T) b o b′ o′
@@ -156,11 +156,11 @@ module _ (f : ℕ) (t y : List ℕ) {r k : ℕ} (h : 0 < r) (e : k ≡ cellOf t 
       ap (λ T. writePointee f T first returned) (node-at t y h k e refl refl refl refl refl refl refl refl) ∙ rw (ne-eqb k 18 n, ne-eqb k 20 m, ne-eqb k 31 i)
 
   -- second halves
-  pub post-pointer : {a j : ℕ} → a ≡ kidOf t (r - 1) 4 → j ≡ kindOf (treeOf t y a) → kindNumber Ptr ≤ k → k ≤ kindNumber Ref → writePost f (treeOf t y r) ≡ writeClosing j ⨾ writePost f (treeOf t y a)
+  pub post-pointer : {a j : ℕ} → a ≡ kidOf t (r - 1) 4 → j ≡ kindOf (treeOf t y a) → kindNumber Ptr ≤ k → k ≤ kindNumber RValueRef → writePost f (treeOf t y r) ≡ writeClosing j ⨾ writePost f (treeOf t y a)
   unfolding writePost
   post-pointer {a} {j} ea ej l m =
       ap (writePost f) (node-at t y h k e refl ea refl refl refl refl refl refl)
-      ∙ on-range 28 2 (λ K. writePost f (node K (numbersAt K (cellOf t (r - 1) 7) (cellOf t (r - 1) 8) (cellOf t (r - 1) 9) (cellOf t (r - 1) 10)) (bytesOf t y (r - 1)) (treeOf t y a) (treeOf t y (kidOf t (r - 1) 5)) (treeOf t y (kidOf t (r - 1) 6))))
+      ∙ on-range 28 3 (λ K. writePost f (node K (numbersAt K (cellOf t (r - 1) 7) (cellOf t (r - 1) 8) (cellOf t (r - 1) 9) (cellOf t (r - 1) 10)) (bytesOf t y (r - 1)) (treeOf t y a) (treeOf t y (kidOf t (r - 1) 5)) (treeOf t y (kidOf t (r - 1) 6))))
       (λ K. writeClosing (kindOf (treeOf t y a)) ⨾ writePost f (treeOf t y a)) refl k l (omega arith)
       ∙ ap (λ i. writeClosing i ⨾ writePost f (treeOf t y a)) (sym ej)
 
@@ -170,12 +170,12 @@ module _ (f : ℕ) (t y : List ℕ) {r k : ℕ} (h : 0 < r) (e : k ≡ cellOf t 
   post-function ea eb eu (inl q) = ap (writePost f) (node-at t y h 18 e q ea eb refl eu refl refl refl)
   post-function ea eb eu (inr q) = ap (writePost f) (node-at t y h 20 e q ea eb refl eu refl refl refl)
 
-  pub post-rest : (k ≡ kindNumber MemberFunction → ⊥) → (k ≡ kindNumber MemberFunctionPointer → ⊥) → (k ≡ kindNumber NonMemberFunction → ⊥) → (k ≡ kindNumber CXXVBTable → ⊥) → (k ≡ kindNumber CXXVFTable → ⊥) → (k ≡ kindNumber VCallThunk → ⊥) → (k ≡ kindNumber Array → ⊥) → (k ≡ kindNumber Var → ⊥) → (k < kindNumber Ptr) ⊎ (kindNumber Ref < k)
+  pub post-rest : (k ≡ kindNumber MemberFunction → ⊥) → (k ≡ kindNumber MemberFunctionPointer → ⊥) → (k ≡ kindNumber NonMemberFunction → ⊥) → (k ≡ kindNumber CXXVBTable → ⊥) → (k ≡ kindNumber CXXVFTable → ⊥) → (k ≡ kindNumber VCallThunk → ⊥) → (k ≡ kindNumber Array → ⊥) → (k ≡ kindNumber Var → ⊥) → (k < kindNumber Ptr) ⊎ (kindNumber RValueRef < k)
       → writePost f (treeOf t y r) ≡ none
   unfolding writePost
   post-rest n₁ n₂ n₃ n₄ n₅ n₆ n₈ n₉ n₇ =
       ap (writePost f) (node-at t y h k e refl refl refl refl refl refl refl refl)
-      ∙ rw (ne-eqb k 18 n₁, ne-eqb k 19 n₂, ne-eqb k 20 n₃, ne-eqb k 21 n₄, ne-eqb k 22 n₅, ne-eqb k 23 n₆, ne-eqb k 28 (outside 28 n₇ (omega arith) (omega arith)), ne-eqb k 29 (outside 29 n₇ (omega arith) (omega arith)), ne-eqb k 31 n₈, ne-eqb k 32 n₉)
+      ∙ rw (ne-eqb k 18 n₁, ne-eqb k 19 n₂, ne-eqb k 20 n₃, ne-eqb k 21 n₄, ne-eqb k 22 n₅, ne-eqb k 23 n₆, ne-eqb k 28 (outside 28 n₇ (omega arith) (omega arith)), ne-eqb k 29 (outside 29 n₇ (omega arith) (omega arith)), ne-eqb k 30 (outside 30 n₇ (omega arith) (omega arith)), ne-eqb k 31 n₈, ne-eqb k 32 n₉)
 
 -- no reference, no text
 module _ (f : ℕ) (t y : List ℕ) {r : ℕ} (e : r ≡ 0) where

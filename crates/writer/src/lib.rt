@@ -239,7 +239,7 @@ fn back(table: &[u32], symbol: &[u8], text: &mut [u8], o: usize, r: usize, flags
         }
         kinds::VFTABLE => vftable(table, symbol, text, o, a, flags),
         kinds::VCALL_THUNK => put_flat(text, o, flags, number(table, m, cells::P)),
-        kinds::PTR..=kinds::REF => {
+        kinds::PTR..=kinds::RVALUE_REF => {
             let o1 = put_closing(text, o, kind_at(table, a));
             back(table, symbol, text, o1, a, flags)
         }
