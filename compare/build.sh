@@ -41,7 +41,7 @@ build() { # profile, the crate's source, rustc's flags
 mend() {
   local arm='Type::Ptr(ref inner, _sc) | Type::Ref(ref inner, _sc)'
   if [ "$(grep -cF "$arm => {" "$crate")" != 1 ]; then
-    echo "build.sh: not one line of $crate has '$arm', so there is none to mend" >&2
+    echo "build.sh: there must be one line to mend in $crate, with '$arm'" >&2
     return 1
   fi
   sed "s/$arm => {/$arm | Type::RValueRef(ref inner, _sc) => {/" "$crate"

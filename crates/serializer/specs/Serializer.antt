@@ -245,7 +245,7 @@ unfoldable mutual
   writeReturn f Tree.none = none
   writeReturn f (node k x s a b c) = writePre f a
 
-  -- the second half of a type
+  -- the second half of a type; an RValueRef has that of a Ref (M-106), in the crate none
   pub writePost : ℕ → Tree → Text
   writePost f Tree.none = none
   writePost f (node k x s a b c) =
