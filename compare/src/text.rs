@@ -8,7 +8,8 @@
 //! COUNT symbols are made from the grammar, half of them damaged, and SHORT are the short strings at
 //! each place of a symbol; LISTS is a folder of lists. The crate with its checks decides; where it
 //! traps, the crate without them. TRIAL is the folder of the writer's trial program: its stored
-//! output is held to the crate, too, and hand-picked references are, unless SHORT is 0.
+//! output is held to the copy, too, unless SHORT is 0; so are hand-picked rvalue references to the
+//! crate's text of references.
 mod answers;
 mod damage;
 mod exhaustive;
