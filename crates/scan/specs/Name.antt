@@ -1,5 +1,6 @@
 -- The parts of names. Assumes nothing: these are definitions.
 use Prim.Native.Nat.{ℕ, _+_}
+use mathlib.Core.Bool.{Bool, true, false}
 use mathlib.Core.List.{List, [], _∷_}
 use lib.ListN.{drop}
 use lib.Dec.{eqb}
@@ -14,6 +15,11 @@ stringFrom n (c ∷ r) = pick (is "@" c) (Takes (n + 1)) (stringFrom (n + 1) r)
 
 abbrev pub readString : List ℕ → Span
 readString r = stringFrom 0 r
+
+-- whether an `@` is among the bytes: no function of the crate, but what our search asks of a block
+unfoldable pub hasAt : List ℕ → Bool
+hasAt [] = false
+hasAt (c ∷ r) = pick (is "@" c) true (hasAt r)
 
 -- how many hex digits stand here, of either case
 unfoldable pub hexDigitsFrom : ℕ → List ℕ → ℕ
