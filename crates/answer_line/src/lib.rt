@@ -1,4 +1,6 @@
 // The line that answers a line of the program's input.
+#![tactic(auto)]
+
 ghost use Rattle.std.specs.Prelude.{◌≡◌, ◌≤◌, length};
 ghost use Rattle.text.specs.Emit.{Wrote, lit};
 ghost use Rattle.farthingmoss.specs.declared.Counts.{Counts};

@@ -20,6 +20,7 @@
 // They take the symbol `s`; what is lent, the node table `t` and the two halves of the memo; the spot `st`; the limits of
 // the reading `lim`, and beside them `depth`, how many more parts may open: of all limits it alone falls. In the layout
 // a call takes ten lines, so that a reader which calls three others has over forty.
+#![tactic(auto)]
 
 ghost use Rattle.std.specs.Prelude.{◌≡◌, ◌-◌, ◌+◌, length};
 ghost use Rattle.forms.specs.Begins.{parse_forms};
@@ -64,7 +65,7 @@ fn turns(s: &[u8], st: Spot) -> usize
 }
 
 // read_var_type, as it is called: a stored type opens no part.
-#[cycle(array_dims_elem_fparams_func_mptr_name_named_nested_nname_oguard_oname_otmpl_param_params_parse_pform_pguard_pname_point_ptmpl_rett_scope_sname_special_strt_sym_tail_tmpl_tofn_ty_unq_unqn_var_vtype)]
+#[cycle(readers)]
 fn vtype(
     s: &[u8],
     t: &mut [u32],
@@ -87,7 +88,7 @@ fn vtype(
 }
 
 // read_var_type
-#[cycle(array_dims_elem_fparams_func_mptr_name_named_nested_nname_oguard_oname_otmpl_param_params_parse_pform_pguard_pname_point_ptmpl_rett_scope_sname_special_strt_sym_tail_tmpl_tofn_ty_unq_unqn_var_vtype)]
+#[cycle(readers)]
 fn ty(
     s: &[u8],
     t: &mut [u32],
@@ -124,7 +125,7 @@ fn ty(
 }
 
 // A type above a name.
-#[cycle(array_dims_elem_fparams_func_mptr_name_named_nested_nname_oguard_oname_otmpl_param_params_parse_pform_pguard_pname_point_ptmpl_rett_scope_sname_special_strt_sym_tail_tmpl_tofn_ty_unq_unqn_var_vtype)]
+#[cycle(readers)]
 fn named(
     s: &[u8],
     t: &mut [u32],
@@ -145,7 +146,7 @@ fn named(
 }
 
 // A type above a pointee.
-#[cycle(array_dims_elem_fparams_func_mptr_name_named_nested_nname_oguard_oname_otmpl_param_params_parse_pform_pguard_pname_point_ptmpl_rett_scope_sname_special_strt_sym_tail_tmpl_tofn_ty_unq_unqn_var_vtype)]
+#[cycle(readers)]
 fn point(
     s: &[u8],
     t: &mut [u32],
@@ -166,7 +167,7 @@ fn point(
 }
 
 // A type above a function, which is a part of its own.
-#[cycle(array_dims_elem_fparams_func_mptr_name_named_nested_nname_oguard_oname_otmpl_param_params_parse_pform_pguard_pname_point_ptmpl_rett_scope_sname_special_strt_sym_tail_tmpl_tofn_ty_unq_unqn_var_vtype)]
+#[cycle(readers)]
 fn tofn(
     s: &[u8],
     t: &mut [u32],
@@ -200,7 +201,7 @@ fn tofn(
 }
 
 // read_func_type
-#[cycle(array_dims_elem_fparams_func_mptr_name_named_nested_nname_oguard_oname_otmpl_param_params_parse_pform_pguard_pname_point_ptmpl_rett_scope_sname_special_strt_sym_tail_tmpl_tofn_ty_unq_unqn_var_vtype)]
+#[cycle(readers)]
 fn func(
     s: &[u8],
     t: &mut [u32],
@@ -226,7 +227,7 @@ fn func(
 }
 
 // read_member_function_pointer
-#[cycle(array_dims_elem_fparams_func_mptr_name_named_nested_nname_oguard_oname_otmpl_param_params_parse_pform_pguard_pname_point_ptmpl_rett_scope_sname_special_strt_sym_tail_tmpl_tofn_ty_unq_unqn_var_vtype)]
+#[cycle(readers)]
 fn mptr(
     s: &[u8],
     t: &mut [u32],
@@ -257,7 +258,7 @@ fn mptr(
 }
 
 // A function's return and its parameters, behind its head.
-#[cycle(array_dims_elem_fparams_func_mptr_name_named_nested_nname_oguard_oname_otmpl_param_params_parse_pform_pguard_pname_point_ptmpl_rett_scope_sname_special_strt_sym_tail_tmpl_tofn_ty_unq_unqn_var_vtype)]
+#[cycle(readers)]
 fn tail(
     s: &[u8],
     t: &mut [u32],
@@ -310,7 +311,7 @@ fn tail(
 }
 
 // The return of a function: a structor's may be missing.
-#[cycle(array_dims_elem_fparams_func_mptr_name_named_nested_nname_oguard_oname_otmpl_param_params_parse_pform_pguard_pname_point_ptmpl_rett_scope_sname_special_strt_sym_tail_tmpl_tofn_ty_unq_unqn_var_vtype)]
+#[cycle(readers)]
 fn rett(
     s: &[u8],
     t: &mut [u32],
@@ -332,7 +333,7 @@ fn rett(
 }
 
 // read_func_return_type
-#[cycle(array_dims_elem_fparams_func_mptr_name_named_nested_nname_oguard_oname_otmpl_param_params_parse_pform_pguard_pname_point_ptmpl_rett_scope_sname_special_strt_sym_tail_tmpl_tofn_ty_unq_unqn_var_vtype)]
+#[cycle(readers)]
 fn strt(
     s: &[u8],
     t: &mut [u32],
@@ -353,7 +354,7 @@ fn strt(
 }
 
 // read_array
-#[cycle(array_dims_elem_fparams_func_mptr_name_named_nested_nname_oguard_oname_otmpl_param_params_parse_pform_pguard_pname_point_ptmpl_rett_scope_sname_special_strt_sym_tail_tmpl_tofn_ty_unq_unqn_var_vtype)]
+#[cycle(readers)]
 fn array(
     s: &[u8],
     t: &mut [u32],
@@ -383,7 +384,7 @@ fn array(
 }
 
 // read_nested_array: a dimension, and one less inside it.
-#[cycle(array_dims_elem_fparams_func_mptr_name_named_nested_nname_oguard_oname_otmpl_param_params_parse_pform_pguard_pname_point_ptmpl_rett_scope_sname_special_strt_sym_tail_tmpl_tofn_ty_unq_unqn_var_vtype)]
+#[cycle(readers)]
 fn dims(
     s: &[u8],
     t: &mut [u32],
@@ -427,7 +428,7 @@ fn dims(
 }
 
 // An array's element, with its class.
-#[cycle(array_dims_elem_fparams_func_mptr_name_named_nested_nname_oguard_oname_otmpl_param_params_parse_pform_pguard_pname_point_ptmpl_rett_scope_sname_special_strt_sym_tail_tmpl_tofn_ty_unq_unqn_var_vtype)]
+#[cycle(readers)]
 fn elem(
     s: &[u8],
     t: &mut [u32],
@@ -452,7 +453,7 @@ fn elem(
 }
 
 // read_func_params
-#[cycle(array_dims_elem_fparams_func_mptr_name_named_nested_nname_oguard_oname_otmpl_param_params_parse_pform_pguard_pname_point_ptmpl_rett_scope_sname_special_strt_sym_tail_tmpl_tofn_ty_unq_unqn_var_vtype)]
+#[cycle(readers)]
 fn fparams(
     s: &[u8],
     t: &mut [u32],
@@ -475,7 +476,7 @@ fn fparams(
 }
 
 // read_params
-#[cycle(array_dims_elem_fparams_func_mptr_name_named_nested_nname_oguard_oname_otmpl_param_params_parse_pform_pguard_pname_point_ptmpl_rett_scope_sname_special_strt_sym_tail_tmpl_tofn_ty_unq_unqn_var_vtype)]
+#[cycle(readers)]
 fn params(
     s: &[u8],
     t: &mut [u32],
@@ -511,7 +512,7 @@ fn params(
 }
 
 // A parameter and its place.
-#[cycle(array_dims_elem_fparams_func_mptr_name_named_nested_nname_oguard_oname_otmpl_param_params_parse_pform_pguard_pname_point_ptmpl_rett_scope_sname_special_strt_sym_tail_tmpl_tofn_ty_unq_unqn_var_vtype)]
+#[cycle(readers)]
 fn param(
     s: &[u8],
     t: &mut [u32],
@@ -537,7 +538,7 @@ fn param(
 }
 
 // read_scope
-#[cycle(array_dims_elem_fparams_func_mptr_name_named_nested_nname_oguard_oname_otmpl_param_params_parse_pform_pguard_pname_point_ptmpl_rett_scope_sname_special_strt_sym_tail_tmpl_tofn_ty_unq_unqn_var_vtype)]
+#[cycle(readers)]
 fn scope(
     s: &[u8],
     t: &mut [u32],
@@ -576,7 +577,7 @@ fn scope(
 }
 
 // A name of a scope and its place.
-#[cycle(array_dims_elem_fparams_func_mptr_name_named_nested_nname_oguard_oname_otmpl_param_params_parse_pform_pguard_pname_point_ptmpl_rett_scope_sname_special_strt_sym_tail_tmpl_tofn_ty_unq_unqn_var_vtype)]
+#[cycle(readers)]
 fn sname(
     s: &[u8],
     t: &mut [u32],
@@ -595,7 +596,7 @@ fn sname(
 }
 
 // read_template_name: its own memo, and the outer one comes back.
-#[cycle(array_dims_elem_fparams_func_mptr_name_named_nested_nname_oguard_oname_otmpl_param_params_parse_pform_pguard_pname_point_ptmpl_rett_scope_sname_special_strt_sym_tail_tmpl_tofn_ty_unq_unqn_var_vtype)]
+#[cycle(readers)]
 fn tmpl(
     s: &[u8],
     t: &mut [u32],
@@ -621,7 +622,7 @@ fn tmpl(
 }
 
 // read_name
-#[cycle(array_dims_elem_fparams_func_mptr_name_named_nested_nname_oguard_oname_otmpl_param_params_parse_pform_pguard_pname_point_ptmpl_rett_scope_sname_special_strt_sym_tail_tmpl_tofn_ty_unq_unqn_var_vtype)]
+#[cycle(readers)]
 fn name(
     s: &[u8],
     t: &mut [u32],
@@ -667,7 +668,7 @@ fn name(
 }
 
 // read_unqualified_name, as it is called: a digit opens no part.
-#[cycle(array_dims_elem_fparams_func_mptr_name_named_nested_nname_oguard_oname_otmpl_param_params_parse_pform_pguard_pname_point_ptmpl_rett_scope_sname_special_strt_sym_tail_tmpl_tofn_ty_unq_unqn_var_vtype)]
+#[cycle(readers)]
 fn unqn(
     s: &[u8],
     t: &mut [u32],
@@ -690,7 +691,7 @@ fn unqn(
 }
 
 // read_unqualified_name
-#[cycle(array_dims_elem_fparams_func_mptr_name_named_nested_nname_oguard_oname_otmpl_param_params_parse_pform_pguard_pname_point_ptmpl_rett_scope_sname_special_strt_sym_tail_tmpl_tofn_ty_unq_unqn_var_vtype)]
+#[cycle(readers)]
 fn unq(
     s: &[u8],
     t: &mut [u32],
@@ -737,7 +738,7 @@ fn unq(
 }
 
 // read_special_name
-#[cycle(array_dims_elem_fparams_func_mptr_name_named_nested_nname_oguard_oname_otmpl_param_params_parse_pform_pguard_pname_point_ptmpl_rett_scope_sname_special_strt_sym_tail_tmpl_tofn_ty_unq_unqn_var_vtype)]
+#[cycle(readers)]
 fn special(
     s: &[u8],
     t: &mut [u32],
@@ -768,7 +769,7 @@ fn special(
 }
 
 // read_nested_name, as it is called: a digit opens no part.
-#[cycle(array_dims_elem_fparams_func_mptr_name_named_nested_nname_oguard_oname_otmpl_param_params_parse_pform_pguard_pname_point_ptmpl_rett_scope_sname_special_strt_sym_tail_tmpl_tofn_ty_unq_unqn_var_vtype)]
+#[cycle(readers)]
 fn nname(
     s: &[u8],
     t: &mut [u32],
@@ -790,7 +791,7 @@ fn nname(
 }
 
 // read_nested_name
-#[cycle(array_dims_elem_fparams_func_mptr_name_named_nested_nname_oguard_oname_otmpl_param_params_parse_pform_pguard_pname_point_ptmpl_rett_scope_sname_special_strt_sym_tail_tmpl_tofn_ty_unq_unqn_var_vtype)]
+#[cycle(readers)]
 fn nested(
     s: &[u8],
     t: &mut [u32],
@@ -829,7 +830,7 @@ fn nested(
 }
 
 // parse
-#[cycle(array_dims_elem_fparams_func_mptr_name_named_nested_nname_oguard_oname_otmpl_param_params_parse_pform_pguard_pname_point_ptmpl_rett_scope_sname_special_strt_sym_tail_tmpl_tofn_ty_unq_unqn_var_vtype)]
+#[cycle(readers)]
 pub fn parse(
     s: &[u8],
     t: &mut [u32],
@@ -856,7 +857,7 @@ pub fn parse(
 }
 
 // parse, behind its `?`.
-#[cycle(array_dims_elem_fparams_func_mptr_name_named_nested_nname_oguard_oname_otmpl_param_params_parse_pform_pguard_pname_point_ptmpl_rett_scope_sname_special_strt_sym_tail_tmpl_tofn_ty_unq_unqn_var_vtype)]
+#[cycle(readers)]
 fn pform(
     s: &[u8],
     t: &mut [u32],
@@ -881,7 +882,7 @@ fn pform(
 }
 
 // parse of a name and its type.
-#[cycle(array_dims_elem_fparams_func_mptr_name_named_nested_nname_oguard_oname_otmpl_param_params_parse_pform_pguard_pname_point_ptmpl_rett_scope_sname_special_strt_sym_tail_tmpl_tofn_ty_unq_unqn_var_vtype)]
+#[cycle(readers)]
 fn pname(
     s: &[u8],
     t: &mut [u32],
@@ -913,7 +914,7 @@ fn pname(
 }
 
 // parse behind `?$TSS`.
-#[cycle(array_dims_elem_fparams_func_mptr_name_named_nested_nname_oguard_oname_otmpl_param_params_parse_pform_pguard_pname_point_ptmpl_rett_scope_sname_special_strt_sym_tail_tmpl_tofn_ty_unq_unqn_var_vtype)]
+#[cycle(readers)]
 fn pguard(
     s: &[u8],
     t: &mut [u32],
@@ -954,7 +955,7 @@ fn pguard(
 }
 
 // parse behind `?$`.
-#[cycle(array_dims_elem_fparams_func_mptr_name_named_nested_nname_oguard_oname_otmpl_param_params_parse_pform_pguard_pname_point_ptmpl_rett_scope_sname_special_strt_sym_tail_tmpl_tofn_ty_unq_unqn_var_vtype)]
+#[cycle(readers)]
 fn ptmpl(
     s: &[u8],
     t: &mut [u32],
@@ -979,7 +980,7 @@ fn ptmpl(
 }
 
 // The symbol of `?$`.
-#[cycle(array_dims_elem_fparams_func_mptr_name_named_nested_nname_oguard_oname_otmpl_param_params_parse_pform_pguard_pname_point_ptmpl_rett_scope_sname_special_strt_sym_tail_tmpl_tofn_ty_unq_unqn_var_vtype)]
+#[cycle(readers)]
 fn otmpl(
     s: &[u8],
     t: &mut [u32],
@@ -1002,7 +1003,7 @@ fn otmpl(
 }
 
 // Its name.
-#[cycle(array_dims_elem_fparams_func_mptr_name_named_nested_nname_oguard_oname_otmpl_param_params_parse_pform_pguard_pname_point_ptmpl_rett_scope_sname_special_strt_sym_tail_tmpl_tofn_ty_unq_unqn_var_vtype)]
+#[cycle(readers)]
 fn oname(
     s: &[u8],
     t: &mut [u32],
@@ -1024,7 +1025,7 @@ fn oname(
 }
 
 // The symbol of `?$TSS`.
-#[cycle(array_dims_elem_fparams_func_mptr_name_named_nested_nname_oguard_oname_otmpl_param_params_parse_pform_pguard_pname_point_ptmpl_rett_scope_sname_special_strt_sym_tail_tmpl_tofn_ty_unq_unqn_var_vtype)]
+#[cycle(readers)]
 fn oguard(
     s: &[u8],
     t: &mut [u32],
@@ -1059,7 +1060,7 @@ fn oguard(
 }
 
 // The symbol's own type.
-#[cycle(array_dims_elem_fparams_func_mptr_name_named_nested_nname_oguard_oname_otmpl_param_params_parse_pform_pguard_pname_point_ptmpl_rett_scope_sname_special_strt_sym_tail_tmpl_tofn_ty_unq_unqn_var_vtype)]
+#[cycle(readers)]
 fn sym(
     s: &[u8],
     t: &mut [u32],
@@ -1101,7 +1102,7 @@ fn sym(
 }
 
 // A variable of a kind.
-#[cycle(array_dims_elem_fparams_func_mptr_name_named_nested_nname_oguard_oname_otmpl_param_params_parse_pform_pguard_pname_point_ptmpl_rett_scope_sname_special_strt_sym_tail_tmpl_tofn_ty_unq_unqn_var_vtype)]
+#[cycle(readers)]
 fn var(
     s: &[u8],
     t: &mut [u32],

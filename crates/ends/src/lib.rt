@@ -1,4 +1,6 @@
 // What closes a production, and the parts that open no other.
+#![tactic(auto)]
+
 ghost use Rattle.std.specs.Prelude.{◌≡◌, List, [], ◌∷◌, ℕ, ◌-◌, eqb};
 ghost use Rattle.node.specs.Kind.{kind_number, ParseResult, RttiBaseClassDescriptor};
 ghost use Rattle.grammar.specs.Table.{laid};

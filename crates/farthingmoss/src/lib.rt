@@ -1,4 +1,6 @@
 // The public calls: any bytes, any flags, any buffers.
+#![tactic(auto)]
+
 ghost use Rattle.std.specs.Prelude.{◌≡◌, length};
 ghost use Rattle.farthingmoss.specs.Call.{fitted, refusal, answer_of, text_left, demangled, table_after, text_after, rooted, root_answer, root_text, written_alone, text_alone, name_ok, name_answer, name_of};
 
@@ -10,7 +12,7 @@ use node::{cells, kinds};
 use reader::Whole;
 use writer::Written;
 
-#[derive(Drop)]
+#[derive(Clone, Copy)]
 pub struct Counts {
     pub offset: usize,
     pub depth: usize,
@@ -18,7 +20,7 @@ pub struct Counts {
     pub text: usize,
 }
 
-#[derive(Drop)]
+#[derive(Clone, Copy)]
 pub enum Answer {
     Answered(Counts),
     NoSymbol,

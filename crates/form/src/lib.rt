@@ -1,4 +1,6 @@
 // Whether a node table is well formed: what a reading can leave.
+#![tactic(auto)]
+
 ghost use Rattle.std.specs.Prelude.{◌≡◌, ◌≤◌, ◌<◌, max};
 ghost use Rattle.node.specs.Cells.{nodes, cell_of, KIND};
 ghost use Rattle.node.specs.Kind.{kind_number, MemberFunction};
@@ -16,7 +18,7 @@ use crate::classes::{
 use node::{cell, cells, height, kind, kinds, room};
 
 // A kind's shape: its class; what its three references may be; the largest of its four numbers; 1 where the first two are a range.
-#[derive(Drop)]
+#[derive(Clone, Copy)]
 struct Shape {
     class: usize,
     a: usize,

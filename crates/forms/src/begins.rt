@@ -4,7 +4,7 @@ ghost use Rattle.forms.specs.Begins.{parse_start, symbol_start, name_start};
 
 use scan::cursor::consume;
 
-#[derive(Drop)]
+#[derive(Clone, Copy)]
 pub enum ParseForm {
     Md5,
     Guard,
@@ -12,14 +12,14 @@ pub enum ParseForm {
     Name,
 }
 
-#[derive(Drop)]
+#[derive(Clone, Copy)]
 pub struct ParseStart {
     pub form: ParseForm,
     pub taken: usize,
 }
 
 // A variable has its kind, the place in the crate's enum VarStorageKind.
-#[derive(Drop)]
+#[derive(Clone, Copy)]
 pub enum SymbolForm {
     Variable(u32),
     VFTable,
@@ -33,13 +33,13 @@ pub enum SymbolForm {
     Nothing,
 }
 
-#[derive(Drop)]
+#[derive(Clone, Copy)]
 pub struct SymbolStart {
     pub form: SymbolForm,
     pub taken: usize,
 }
 
-#[derive(Drop)]
+#[derive(Clone, Copy)]
 pub enum NameForm {
     Stored(u32),
     Parsed,
@@ -51,7 +51,7 @@ pub enum NameForm {
     Plain,
 }
 
-#[derive(Drop)]
+#[derive(Clone, Copy)]
 pub struct NameStart {
     pub form: NameForm,
     pub taken: usize,

@@ -6,7 +6,7 @@ use letters::read_qualifier;
 use scan::cursor::{Found, consume, read_digit};
 
 // The prefixes; `Plain` where none of them stands.
-#[derive(Drop)]
+#[derive(Clone, Copy)]
 pub enum TypeForm {
     Enum,
     FunctionRef,
@@ -26,14 +26,14 @@ pub enum TypeForm {
     Plain,
 }
 
-#[derive(Drop)]
+#[derive(Clone, Copy)]
 pub struct TypeStart {
     pub form: TypeForm,
     pub taken: usize,
 }
 
 // The letters behind them. A basic type is its place in the crate's enum Type, counted from `Void`.
-#[derive(Drop)]
+#[derive(Clone, Copy)]
 pub enum TypeLetter {
     Parameter,
     Union,
@@ -50,14 +50,14 @@ pub enum TypeLetter {
     Refused,
 }
 
-#[derive(Drop)]
+#[derive(Clone, Copy)]
 pub struct TypeHead {
     pub letter: TypeLetter,
     pub taken: usize,
 }
 
 // A stored type: its digit, and the bytes up to and with it.
-#[derive(Drop)]
+#[derive(Clone, Copy)]
 pub enum Reference {
     Stored(u32, usize),
     Absent,

@@ -1,10 +1,12 @@
 // What refuses a call before anything is read.
+#![tactic(auto)]
+
 ghost use Rattle.std.specs.Prelude.{◌≡◌};
 ghost use Rattle.gates.specs.Gates.{known_flags, high_at, symbol_gate, gate};
 
 use scan::limits::{DEEPEST_READING, LONGEST_SYMBOL};
 
-#[derive(Drop)]
+#[derive(Clone, Copy)]
 pub enum Gate {
     Open,
     Call,

@@ -1,10 +1,12 @@
 // The state of a reading, declared beside the language that reads.
 // As many names and types are stored in a memo as there are digits to name them.
+#![tactic(auto)]
+
 pub const ENTRIES: usize = 10;
 
 pub type Entries = [u16; ENTRIES];
 
-#[derive(Drop)]
+#[derive(Clone, Copy)]
 pub struct Memo {
     pub names: Entries,
     pub types: Entries,
@@ -12,7 +14,7 @@ pub struct Memo {
     pub types_len: u8,
 }
 
-#[derive(Drop)]
+#[derive(Clone, Copy)]
 pub struct State {
     pub at: u16,
     pub used: u16,
@@ -20,7 +22,7 @@ pub struct State {
     pub memo: Memo,
 }
 
-#[derive(Drop)]
+#[derive(Clone, Copy)]
 pub enum Refusal {
     Syntax,
     Deep,

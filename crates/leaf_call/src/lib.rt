@@ -1,4 +1,6 @@
 // Every leaf by number, with one shape of answer.
+#![tactic(auto)]
+
 pub mod reply;
 pub mod starts;
 

@@ -1,4 +1,6 @@
 // The leaves for callers in C or Rust.
+#![tactic(auto)]
+
 ghost use Rattle.std.specs.Prelude.{◌≡◌, drop};
 ghost use Rattle.leaf_call.specs.Replies.{leaf_reply};
 ghost use Rattle.leaf_export.specs.Written.{written};

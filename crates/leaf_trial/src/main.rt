@@ -1,6 +1,8 @@
 // Replays leaf cases, a line of standard input each: a leaf's number in two digits, then a space and bytes to read,
 // or a star and bytes behind which each of the 256 bytes is tried. Prints number, bytes taken, value and start;
 // of the 256, the answer of byte 0 and then each byte whose answer differs from it.
+#![tactic(auto)]
+
 ghost use Rattle.std.specs.Prelude.{◌≤◌, length};
 
 use leaf_call::call_leaf;

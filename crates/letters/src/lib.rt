@@ -1,4 +1,6 @@
 // Letters that name a convention, a class or qualifiers. Values are the crate's bits and the places of its enums.
+#![tactic(auto)]
+
 ghost use Rattle.std.specs.Prelude.{◌≡◌, List, ◌∷◌, ℕ, ◌≤◌, length, drop};
 ghost use Rattle.scan.specs.Number.{read_number};
 ghost use Rattle.letters.specs.Classes.{read_calling_conv, func_class_letter, adjusted, read_func_class, read_storage_class, read_qualifier, read_storage_class_for_return, optional, ref_qualifier, read_func_qualifiers, read_string_width, read_guard_marker};
@@ -14,7 +16,7 @@ use scan::cursor::{Leaf, consume};
 use scan::number::read_number;
 
 // What letters that may be missing say, as bits of StorageClass, and how many bytes they take. They are never refused.
-#[derive(Drop)]
+#[derive(Clone, Copy)]
 pub struct Class {
     pub bits: u32,
     pub taken: usize,

@@ -1,4 +1,6 @@
 // The program's work between two reads: the lines that came, answered, and the rest kept.
+#![tactic(auto)]
+
 ghost use Rattle.std.specs.Prelude.{◌≡◌, ◌++◌, ◌+◌, ◌≤◌, length, take, drop};
 ghost use Rattle.lines.specs.Output.{Open, output};
 ghost use Rattle.lines.specs.Steps.{Steps, Ready};
@@ -11,7 +13,7 @@ mod lines;
 use answer_line::LONGEST_ANSWER;
 
 // How many bytes of the input's beginning are kept, how many of the output wait, and whether a step stopped for want of room.
-#[derive(Drop)]
+#[derive(Clone, Copy)]
 pub struct Work {
     pub kept: usize,
     pub used: usize,

@@ -7,7 +7,7 @@ ghost use Rattle.answer_line.specs.Line.{line_cells, line_text, longest_answer};
 use answer_line::{LONGEST_ANSWER, answer_line};
 
 // Up to where the lines are answered, and how many bytes of the output wait.
-#[derive(Drop)]
+#[derive(Clone, Copy)]
 pub struct Place {
     pub at: usize,
     pub used: usize,

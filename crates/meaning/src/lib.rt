@@ -1,4 +1,6 @@
 // What nodes mean, and whether two mean the same.
+#![tactic(auto)]
+
 ghost use Rattle.std.specs.Prelude.{◌≡◌, ℕ, ◌≤◌, ◌<◌, ◌^◌, eqb, Bool, true, false, ◌&&◌, List};
 ghost use Rattle.node.specs.Cells as cells;
 ghost use Rattle.node.specs.Cells.{nodes, cell_of, KIND};
@@ -284,7 +286,7 @@ fn join(table: &[u32], symbol: &[u8], links: &mut [u16], r: usize, q: usize)
 const STRETCH: usize = 64;
 
 // Whether r and q mean the same: links to what is found equal, and a note of what is found to differ.
-#[cycle(linked_second_third_walk)]
+#[cycle(walks)]
 fn linked(table: &[u32], symbol: &[u8], links: &mut [u16], r: usize, q: usize) -> bool
     requires { (r ≤ nodes table.now) × (q ≤ nodes table.now) × Links (tree_of table.now symbol.now) links.old }
     ensures { (result ≡ eq_tree (tree_of table.now symbol.now r) (tree_of table.now symbol.now q)) × Links (tree_of table.now symbol.now) links.new }
@@ -309,7 +311,7 @@ fn linked(table: &[u32], symbol: &[u8], links: &mut [u16], r: usize, q: usize) -
 }
 
 // The second references of nodes i and j: entries of lists, mostly, of which most are told at once.
-#[cycle(linked_second_third_walk)]
+#[cycle(walks)]
 fn second(table: &[u32], symbol: &[u8], links: &mut [u16], i: usize, j: usize) -> bool
     requires { (i < nodes table.now) × (j < nodes table.now) × Links (tree_of table.now symbol.now) links.old }
     ensures { (result ≡ eq_tree (tree_of table.now symbol.now (kid_of table.now i cells.B)) (tree_of table.now symbol.now (kid_of table.now j cells.B))) × Links (tree_of table.now symbol.now) links.new }
@@ -323,7 +325,7 @@ fn second(table: &[u32], symbol: &[u8], links: &mut [u16], i: usize, j: usize) -
 }
 
 // The third references of nodes i and j: few kinds have one.
-#[cycle(linked_second_third_walk)]
+#[cycle(walks)]
 fn third(table: &[u32], symbol: &[u8], links: &mut [u16], i: usize, j: usize) -> bool
     requires { (i < nodes table.now) × (j < nodes table.now) × Links (tree_of table.now symbol.now) links.old }
     ensures { (result ≡ eq_tree (tree_of table.now symbol.now (kid_of table.now i cells.C)) (tree_of table.now symbol.now (kid_of table.now j cells.C))) × Links (tree_of table.now symbol.now) links.new }
@@ -337,7 +339,7 @@ fn third(table: &[u32], symbol: &[u8], links: &mut [u16], i: usize, j: usize) ->
 }
 
 // Recursion over the second and the third references and a loop along the first.
-#[cycle(linked_second_third_walk)]
+#[cycle(walks)]
 fn walk(table: &[u32], symbol: &[u8], links: &mut [u16], r: usize, q: usize) -> bool
     requires { (r ≤ nodes table.now) × (q ≤ nodes table.now) × Links (tree_of table.now symbol.now) links.old }
     ensures { (result ≡ eq_tree (tree_of table.now symbol.now r) (tree_of table.now symbol.now q)) × Links (tree_of table.now symbol.now) links.new }
@@ -399,7 +401,7 @@ fn cost_of(table: &[u32], n: usize) -> usize
 }
 
 // The references in cell c of nodes i and j, after others with this answer.
-#[cycle(plain_plain_kid)]
+#[cycle(plainly)]
 fn plain_kid(table: &[u32], symbol: &[u8], i: usize, j: usize, c: usize, left: usize) -> usize
     requires { (i < nodes table.now) × (j < nodes table.now) × (c < 12) }
     ensures { (e : Bool) → Judged e left → Judged (e && eq_tree (tree_of table.now symbol.now (kid_of table.now i c)) (tree_of table.now symbol.now (kid_of table.now j c))) result }
@@ -416,7 +418,7 @@ fn plain_kid(table: &[u32], symbol: &[u8], i: usize, j: usize, c: usize, left: u
 }
 
 // Plain recursion. 0: they differ; 1: the budget is spent; else they are the same, and this is left of the budget.
-#[cycle(plain_plain_kid)]
+#[cycle(plainly)]
 fn plain(table: &[u32], symbol: &[u8], r: usize, q: usize, left: usize) -> usize
     requires { (r ≤ nodes table.now) × (q ≤ nodes table.now) × (2 ≤ left) }
     ensures { Judged (eq_tree (tree_of table.now symbol.now r) (tree_of table.now symbol.now q)) result }

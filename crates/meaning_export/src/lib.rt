@@ -1,4 +1,6 @@
 // Equality of meaning for callers in C or Rust.
+#![tactic(auto)]
+
 ghost use Rattle.std.specs.Prelude.{◌≡◌};
 ghost use Rattle.meaning.specs.Tree.{tree_of, eq_tree};
 

@@ -1,4 +1,6 @@
 // The node table: a node is twelve cells. Writing a node, reading a cell.
+#![tactic(auto)]
+
 ghost use Rattle.std.specs.Prelude.{◌≡◌, ◌<◌, ◌+◌, ◌*◌, ◌^◌};
 ghost use Rattle.node.specs.Cells.{nodes, cell_of, stored, height_at, KIND};
 
@@ -7,7 +9,7 @@ pub mod kinds;
 
 pub const CELLS: usize = 12;
 
-#[derive(Drop)]
+#[derive(Clone, Copy)]
 pub struct Node {
     pub kind: u32,
     pub height: u32,

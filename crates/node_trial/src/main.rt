@@ -1,5 +1,7 @@
 // Builds a table with a node of every kind for a symbol of three bytes, then damages each of its cells in six ways.
 // Prints, a line for each node and a group for each of its cells, whether the table is still well formed.
+#![tactic(auto)]
+
 ghost use Rattle.std.specs.Prelude.{◌<◌};
 
 use libc::STDOUT_FILENO;

@@ -1,5 +1,7 @@
 // The letters of `read_special_name`, behind `?`. Operators are numbered in the order of the crate's enum,
 // but for the two RTTI descriptors with operands, which come last.
+#![tactic(auto)]
+
 ghost use Rattle.std.specs.Prelude.{◌≡◌, List, ◌∷◌, ℕ, drop};
 ghost use Rattle.operators.specs.Operators.{read_operator};
 

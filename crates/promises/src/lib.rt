@@ -1,4 +1,6 @@
 // What the public calls promise, as statements (specs/Promises.antt). Nothing here is to be run: it is proved.
+#![tactic(auto)]
+
 ghost use Rattle.promises.specs.Promises.{Promises, Demangles, Writes, Names, Parts};
 
 use farthingmoss::Answer;

@@ -1,4 +1,5 @@
 // The whole reading of a symbol into a lent node table: what it answers, and what it leaves.
+#![tactic(auto)]
 
 ghost use Rattle.std.specs.Prelude.{◌≡◌, [], ◌++◌, ◌≤◌, min, length, drop, replicate};
 ghost use Rattle.node.specs.Cells.{nodes};
@@ -12,14 +13,14 @@ use scan::limits::{DEEPEST_READING, LONGEST_SYMBOL, MOST_NODES};
 use steps::state::{Answer, Limits, Spot};
 
 // What a whole reading answers: nothing is read of a symbol or within a depth above the limits.
-#[derive(Drop)]
+#[derive(Clone, Copy)]
 pub enum Whole {
     Outside,
     Root(u16),
     Refused(Refusal),
 }
 
-#[derive(Drop)]
+#[derive(Clone, Copy)]
 pub struct Outcome {
     pub answer: Whole,
     pub state: State,

@@ -1,4 +1,6 @@
 // The reader for callers in C or Rust.
+#![tactic(auto)]
+
 ghost use Rattle.std.specs.Prelude.{◌≡◌};
 ghost use Rattle.reader.specs.Whole.{answered, table_left};
 ghost use Rattle.reader_export.specs.Reported.{number_of, reported};

@@ -1,5 +1,7 @@
 // Replays readings, a line of standard input each: a depth in three digits, a number of nodes in four, a space, and a symbol.
 // Prints the line, and the reading's number and offset.
+#![tactic(auto)]
+
 ghost use Rattle.std.specs.Prelude.{◌≤◌, length};
 
 use grammar::Refusal;

@@ -4,21 +4,21 @@ ghost use Rattle.scan.specs.Bytes.{starts, is_hex};
 ghost use Rattle.scan.specs.Cursor.{get_byte, expect_literal, read_digit, read_hex_digit};
 
 // What a leaf reads: a value and how many bytes it took, or how many it took before it was refused.
-#[derive(Drop)]
+#[derive(Clone, Copy)]
 pub enum Leaf {
     Value(u32, usize),
     Bad(usize),
 }
 
 // The same where the bytes themselves are the value.
-#[derive(Drop)]
+#[derive(Clone, Copy)]
 pub enum Span {
     Takes(usize),
     Bad(usize),
 }
 
 // A byte, or none of the kind asked for.
-#[derive(Drop)]
+#[derive(Clone, Copy)]
 pub enum Found {
     Byte(u8),
     Nothing,

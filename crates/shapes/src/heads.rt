@@ -15,7 +15,7 @@ use steps::leaves::{
 use steps::state::{Classed, Spot, Value};
 
 // The node's kind and numbers, its third reference, the class of the return, and whether a structor's `@` may stand for it.
-#[derive(Drop)]
+#[derive(Clone, Copy)]
 pub struct Signature {
     pub kind: u32,
     pub class: u32,
@@ -26,7 +26,7 @@ pub struct Signature {
     pub structor: bool,
 }
 
-#[derive(Drop)]
+#[derive(Clone, Copy)]
 pub struct Headed {
     pub good: bool,
     pub signature: Signature,

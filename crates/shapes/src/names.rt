@@ -13,7 +13,7 @@ use operators::{RTTI_BASE_CLASS_DESCRIPTOR, RTTI_TYPE_DESCRIPTOR};
 use steps::leaves::{expect, number, operator, storage_class, string};
 use steps::state::{Spot, Value, past};
 
-#[derive(Drop)]
+#[derive(Clone, Copy)]
 pub enum NameShape {
     // the stored name of a digit
     Stored(u32),
@@ -25,7 +25,7 @@ pub enum NameShape {
     Refused,
 }
 
-#[derive(Drop)]
+#[derive(Clone, Copy)]
 pub struct NameShaped {
     pub shape: NameShape,
     pub state: Spot,
@@ -151,7 +151,7 @@ pub fn name_shape(s: &[u8], st: Spot) -> NameShaped
     form_shape(s, past(st, b.taken), f)
 }
 
-#[derive(Drop)]
+#[derive(Clone, Copy)]
 pub enum SpecialShape {
     // an operator; the descriptor of a type, with its class; the descriptor of a base class, with its four numbers
     Operator(u32),
@@ -160,7 +160,7 @@ pub enum SpecialShape {
     Refused,
 }
 
-#[derive(Drop)]
+#[derive(Clone, Copy)]
 pub struct SpecialShaped {
     pub shape: SpecialShape,
     pub state: Spot,
@@ -247,7 +247,7 @@ pub fn special_shape(s: &[u8], st: Spot) -> SpecialShaped
     }
 }
 
-#[derive(Drop)]
+#[derive(Clone, Copy)]
 pub enum UnqualifiedShape {
     Template,
     Special,
@@ -256,7 +256,7 @@ pub enum UnqualifiedShape {
     Refused,
 }
 
-#[derive(Drop)]
+#[derive(Clone, Copy)]
 pub struct UnqualifiedShaped {
     pub shape: UnqualifiedShape,
     pub state: Spot,

@@ -17,7 +17,7 @@ use steps::leaves::{
 use steps::state::{Spot, Took, Value, past};
 use strings::encoded::Encoded;
 
-#[derive(Drop)]
+#[derive(Clone, Copy)]
 pub enum SymbolShape {
     // a variable of a kind
     Variable(u32),
@@ -30,7 +30,7 @@ pub enum SymbolShape {
     Refused,
 }
 
-#[derive(Drop)]
+#[derive(Clone, Copy)]
 pub struct SymbolShaped {
     pub shape: SymbolShape,
     pub state: Spot,
@@ -156,7 +156,7 @@ pub fn symbol_shape(s: &[u8], st: Spot) -> SymbolShaped
     form_shape(s, past(st, b.taken), f)
 }
 
-#[derive(Drop)]
+#[derive(Clone, Copy)]
 pub struct Parsing {
     pub form: ParseForm,
     pub state: Spot,

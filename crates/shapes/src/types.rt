@@ -14,7 +14,7 @@ use node::kinds;
 use steps::leaves::{expect, number, qualifier};
 use steps::state::{Spot, Value, past};
 
-#[derive(Drop)]
+#[derive(Clone, Copy)]
 pub enum Shape {
     // a node of a kind above a name; whether it is read as a function's; its class
     Named(u32, bool, u32),
@@ -30,7 +30,7 @@ pub enum Shape {
     Refused,
 }
 
-#[derive(Drop)]
+#[derive(Clone, Copy)]
 pub struct Shaped {
     pub shape: Shape,
     pub state: Spot,

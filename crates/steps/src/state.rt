@@ -5,14 +5,14 @@ ghost use Rattle.steps.specs.Does.{refused_at, found_at, further, opening};
 use grammar::Refusal;
 
 // The budgets of a reading.
-#[derive(Drop)]
+#[derive(Clone, Copy)]
 pub struct Limits {
     pub depth: u16,
     pub room: u16,
 }
 
 // A state without the memo's entries, which stand in two lent arrays: it is handed along in one word.
-#[derive(Drop)]
+#[derive(Clone, Copy)]
 pub struct Spot {
     pub at: u16,
     pub used: u16,
@@ -22,14 +22,14 @@ pub struct Spot {
 }
 
 // A node by its number, or the last place of a list by its reference.
-#[derive(Drop)]
+#[derive(Clone, Copy)]
 pub enum Answer {
     Node(u16),
     Refused(Refusal),
 }
 
 // An answer with the state behind it. `extra` is 1 for the name of a guard; of an array it is the class of the element.
-#[derive(Drop)]
+#[derive(Clone, Copy)]
 pub struct Got {
     pub answer: Answer,
     pub extra: u32,
@@ -37,20 +37,20 @@ pub struct Got {
 }
 
 // A number that some bytes say, and the state behind them.
-#[derive(Drop)]
+#[derive(Clone, Copy)]
 pub enum Value {
     Is(u32),
     Bad,
 }
 
-#[derive(Drop)]
+#[derive(Clone, Copy)]
 pub struct Took {
     pub value: Value,
     pub state: Spot,
 }
 
 // The bits of letters that may be missing, and the state behind them.
-#[derive(Drop)]
+#[derive(Clone, Copy)]
 pub struct Classed {
     pub bits: u32,
     pub state: Spot,

@@ -6,7 +6,7 @@ use scan::cursor::{Leaf, Span};
 use scan::number::read_number;
 
 // The declared length as its 32 bits, where the characters start, and the bytes taken in all; or the bytes taken before the refusal.
-#[derive(Drop)]
+#[derive(Clone, Copy)]
 pub enum Encoded {
     Chars {
         length: u32,

@@ -1,4 +1,6 @@
 // The symbols of a log, a line of standard input each. For each it writes a line: `ok`, tab, text, or `no`, tab, number, tab, offset.
+#![tactic(auto)]
+
 ghost use Rattle.std.specs.Prelude.{false, ◌≡◌, ◌+◌, ◌≤◌, ◌<◌, length, take};
 ghost use Rattle.lines.specs.Output.{Open};
 ghost use Rattle.undname.specs.Turns.{piece, Between, Reaches, Emptied, Goes};
@@ -11,7 +13,7 @@ use lines::Work;
 const PIECE: usize = 65_536;
 
 // How many bytes came.
-#[derive(Drop)]
+#[derive(Clone, Copy)]
 enum Got {
     Bytes(usize),
     End,
@@ -19,14 +21,14 @@ enum Got {
 }
 
 // What is left to do once all that waits is written.
-#[derive(Drop)]
+#[derive(Clone, Copy)]
 enum Handed {
     All(Work),
     Failed,
 }
 
 // The work to go on with, or that at the end.
-#[derive(Drop)]
+#[derive(Clone, Copy)]
 enum Next {
     On(Work),
     Done(Work),

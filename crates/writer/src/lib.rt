@@ -1,5 +1,7 @@
 // The text of a node into a lent buffer: the crate's Serializer over the node table. Every writer takes the place `o` in the text and gives the
 // place after what it wrote; past the buffer's end it stays there, and nothing more is visited.
+#![tactic(auto)]
+
 ghost use Rattle.std.specs.Prelude.{◌≡◌, ◌<◌, ◌≤◌, ◌-◌, ◌⊎◌, length};
 ghost use Rattle.scan.specs.Bytes.{pick};
 ghost use Rattle.node.specs.Cells as cells;
@@ -33,7 +35,7 @@ use text::decimal::put_decimal;
 use text::spaces::put_space;
 use text::words::put_word;
 
-#[derive(Drop)]
+#[derive(Clone, Copy)]
 pub enum Written {
     Whole(usize),
     Cut,
@@ -52,7 +54,7 @@ pub fn write(table: &[u32], symbol: &[u8], text: &mut [u8], r: usize, flags: u32
 }
 
 // A ParseResult.
-#[cycle(back_cast_class_destructor_entry_front_function_leading_member_name_one_own_own_operator_params_parsed_pointee_pointer_returned_run_scope_structor_types_vftable)]
+#[cycle(writers)]
 fn parsed(table: &[u32], symbol: &[u8], text: &mut [u8], o: usize, r: usize, flags: u32) -> usize
     ensures { Wrote (serialize flags (tree_of table.now symbol.now r)) text.old o text.new result }
 {
@@ -73,7 +75,7 @@ fn parsed(table: &[u32], symbol: &[u8], text: &mut [u8], o: usize, r: usize, fla
 }
 
 // The first half of a ParseResult's type, unless the flags leave it out.
-#[cycle(back_cast_class_destructor_entry_front_function_leading_member_name_one_own_own_operator_params_parsed_pointee_pointer_returned_run_scope_structor_types_vftable)]
+#[cycle(writers)]
 fn leading(table: &[u32], symbol: &[u8], text: &mut [u8], o: usize, r: usize, flags: u32) -> usize
     ensures { Wrote (unless (no_return flags) (write_pre flags (tree_of table.now symbol.now r))) text.old o text.new result }
 {
@@ -87,7 +89,7 @@ fn leading(table: &[u32], symbol: &[u8], text: &mut [u8], o: usize, r: usize, fl
 }
 
 // The first half of a type, an arm for each kind.
-#[cycle(back_cast_class_destructor_entry_front_function_leading_member_name_one_own_own_operator_params_parsed_pointee_pointer_returned_run_scope_structor_types_vftable)]
+#[cycle(writers)]
 fn front(table: &[u32], symbol: &[u8], text: &mut [u8], o: usize, r: usize, flags: u32) -> usize
     ensures { Wrote (write_pre flags (tree_of table.now symbol.now r)) text.old o text.new result }
 {
@@ -134,7 +136,7 @@ fn front(table: &[u32], symbol: &[u8], text: &mut [u8], o: usize, r: usize, flag
 }
 
 // A MemberFunctionPointer.
-#[cycle(back_cast_class_destructor_entry_front_function_leading_member_name_one_own_own_operator_params_parsed_pointee_pointer_returned_run_scope_structor_types_vftable)]
+#[cycle(writers)]
 fn member(table: &[u32], symbol: &[u8], text: &mut [u8], o: usize, r: usize, flags: u32) -> usize
     requires { (0 < r) × (cell_of table.now (r - 1) KIND ≡ kind_number MemberFunctionPointer) }
     ensures { Wrote (write_pre flags (tree_of table.now symbol.now r)) text.old o text.new result }
@@ -149,7 +151,7 @@ fn member(table: &[u32], symbol: &[u8], text: &mut [u8], o: usize, r: usize, fla
 }
 
 // A Ptr, a Ref or an RValueRef.
-#[cycle(back_cast_class_destructor_entry_front_function_leading_member_name_one_own_own_operator_params_parsed_pointee_pointer_returned_run_scope_structor_types_vftable)]
+#[cycle(writers)]
 fn pointer(table: &[u32], symbol: &[u8], text: &mut [u8], o: usize, r: usize, flags: u32) -> usize
     requires { (0 < r) × (kind_number Ptr ≤ cell_of table.now (r - 1) KIND) × (cell_of table.now (r - 1) KIND ≤ kind_number RValueRef) }
     ensures { Wrote (write_pre flags (tree_of table.now symbol.now r)) text.old o text.new result }
@@ -162,7 +164,7 @@ fn pointer(table: &[u32], symbol: &[u8], text: &mut [u8], o: usize, r: usize, fl
 }
 
 // What stands before `*`, `&` or `&&`.
-#[cycle(back_cast_class_destructor_entry_front_function_leading_member_name_one_own_own_operator_params_parsed_pointee_pointer_returned_run_scope_structor_types_vftable)]
+#[cycle(writers)]
 fn pointee(table: &[u32], symbol: &[u8], text: &mut [u8], o: usize, r: usize, flags: u32) -> usize
     ensures { Wrote (write_pointee flags (tree_of table.now symbol.now r) (write_pre flags (tree_of table.now symbol.now r)) (write_return flags (tree_of table.now symbol.now r))) text.old o text.new result }
 {
@@ -190,7 +192,7 @@ fn pointee(table: &[u32], symbol: &[u8], text: &mut [u8], o: usize, r: usize, fl
 }
 
 // An Alias, a Struct, a Union, a Class or an Enum.
-#[cycle(back_cast_class_destructor_entry_front_function_leading_member_name_one_own_own_operator_params_parsed_pointee_pointer_returned_run_scope_structor_types_vftable)]
+#[cycle(writers)]
 fn class(table: &[u32], symbol: &[u8], text: &mut [u8], o: usize, r: usize, flags: u32) -> usize
     requires { (0 < r) × (kind_number Alias ≤ cell_of table.now (r - 1) KIND) × (cell_of table.now (r - 1) KIND ≤ kind_number Enum) }
     ensures { Wrote (write_pre flags (tree_of table.now symbol.now r)) text.old o text.new result }
@@ -202,7 +204,7 @@ fn class(table: &[u32], symbol: &[u8], text: &mut [u8], o: usize, r: usize, flag
 }
 
 // The second half of a type.
-#[cycle(back_cast_class_destructor_entry_front_function_leading_member_name_one_own_own_operator_params_parsed_pointee_pointer_returned_run_scope_structor_types_vftable)]
+#[cycle(writers)]
 fn back(table: &[u32], symbol: &[u8], text: &mut [u8], o: usize, r: usize, flags: u32) -> usize
     ensures { Wrote (write_post flags (tree_of table.now symbol.now r)) text.old o text.new result }
 {
@@ -241,7 +243,7 @@ fn back(table: &[u32], symbol: &[u8], text: &mut [u8], o: usize, r: usize, flags
 }
 
 // The second half of a function.
-#[cycle(back_cast_class_destructor_entry_front_function_leading_member_name_one_own_own_operator_params_parsed_pointee_pointer_returned_run_scope_structor_types_vftable)]
+#[cycle(writers)]
 fn function(table: &[u32], symbol: &[u8], text: &mut [u8], o: usize, r: usize, flags: u32) -> usize
     requires { (0 < r) × ((cell_of table.now (r - 1) KIND ≡ kind_number MemberFunction) ⊎ (cell_of table.now (r - 1) KIND ≡ kind_number NonMemberFunction)) }
     ensures { Wrote (write_post flags (tree_of table.now symbol.now r)) text.old o text.new result }
@@ -255,7 +257,7 @@ fn function(table: &[u32], symbol: &[u8], text: &mut [u8], o: usize, r: usize, f
 }
 
 // The second half of a MemberFunctionPointer.
-#[cycle(back_cast_class_destructor_entry_front_function_leading_member_name_one_own_own_operator_params_parsed_pointee_pointer_returned_run_scope_structor_types_vftable)]
+#[cycle(writers)]
 fn returned(table: &[u32], symbol: &[u8], text: &mut [u8], o: usize, r: usize, flags: u32) -> usize
     requires { (0 < r) × (cell_of table.now (r - 1) KIND ≡ kind_number MemberFunctionPointer) }
     ensures { Wrote (write_post flags (tree_of table.now symbol.now r)) text.old o text.new result }
@@ -274,7 +276,7 @@ fn returned(table: &[u32], symbol: &[u8], text: &mut [u8], o: usize, r: usize, f
 }
 
 // Whom a virtual function table is for.
-#[cycle(back_cast_class_destructor_entry_front_function_leading_member_name_one_own_own_operator_params_parsed_pointee_pointer_returned_run_scope_structor_types_vftable)]
+#[cycle(writers)]
 fn vftable(table: &[u32], symbol: &[u8], text: &mut [u8], o: usize, r: usize, flags: u32) -> usize
     ensures { Wrote (unless (is_empty (tree_of table.now symbol.now r)) (put "{for `" ⨾ write_scope flags (tree_of table.now symbol.now r) ⨾ put "'}")) text.old o text.new result }
 {
@@ -287,7 +289,7 @@ fn vftable(table: &[u32], symbol: &[u8], text: &mut [u8], o: usize, r: usize, fl
 }
 
 // The types of a list.
-#[cycle(back_cast_class_destructor_entry_front_function_leading_member_name_one_own_own_operator_params_parsed_pointee_pointer_returned_run_scope_structor_types_vftable)]
+#[cycle(writers)]
 fn types(table: &[u32], symbol: &[u8], text: &mut [u8], o: usize, r: usize, flags: u32) -> usize
     ensures { Wrote (write_types flags (tree_of table.now symbol.now r)) text.old o text.new result }
 {
@@ -298,7 +300,7 @@ fn types(table: &[u32], symbol: &[u8], text: &mut [u8], o: usize, r: usize, flag
 }
 
 // The last n entries of a list that are not empty packs: the front half, and then the back half.
-#[cycle(back_cast_class_destructor_entry_front_function_leading_member_name_one_own_own_operator_params_parsed_pointee_pointer_returned_run_scope_structor_types_vftable)]
+#[cycle(writers)]
 fn run(
     table: &[u32],
     symbol: &[u8],
@@ -329,7 +331,7 @@ fn run(
 }
 
 // The last entry of a list, with its comma.
-#[cycle(back_cast_class_destructor_entry_front_function_leading_member_name_one_own_own_operator_params_parsed_pointee_pointer_returned_run_scope_structor_types_vftable)]
+#[cycle(writers)]
 fn entry(table: &[u32], symbol: &[u8], text: &mut [u8], o: usize, r: usize, flags: u32) -> usize
     ensures { Wrote (last_entry flags (tree_of table.now symbol.now r)) text.old o text.new result }
 {
@@ -344,7 +346,7 @@ fn entry(table: &[u32], symbol: &[u8], text: &mut [u8], o: usize, r: usize, flag
 }
 
 // The symbol that r names, which `up` refers to.
-#[cycle(back_cast_class_destructor_entry_front_function_leading_member_name_one_own_own_operator_params_parsed_pointee_pointer_returned_run_scope_structor_types_vftable)]
+#[cycle(writers)]
 fn name(
     table: &[u32],
     symbol: &[u8],
@@ -375,7 +377,7 @@ fn name(
 }
 
 // A symbol's own name a, in the scope b.
-#[cycle(back_cast_class_destructor_entry_front_function_leading_member_name_one_own_own_operator_params_parsed_pointee_pointer_returned_run_scope_structor_types_vftable)]
+#[cycle(writers)]
 fn own(
     table: &[u32],
     symbol: &[u8],
@@ -411,7 +413,7 @@ fn own(
 }
 
 // An operator as a symbol's own name, in the scope b.
-#[cycle(back_cast_class_destructor_entry_front_function_leading_member_name_one_own_own_operator_params_parsed_pointee_pointer_returned_run_scope_structor_types_vftable)]
+#[cycle(writers)]
 fn own_operator(
     table: &[u32],
     symbol: &[u8],
@@ -436,7 +438,7 @@ fn own_operator(
 }
 
 // The scope's first name, as a constructor.
-#[cycle(back_cast_class_destructor_entry_front_function_leading_member_name_one_own_own_operator_params_parsed_pointee_pointer_returned_run_scope_structor_types_vftable)]
+#[cycle(writers)]
 fn structor(table: &[u32], symbol: &[u8], text: &mut [u8], o: usize, b: usize, flags: u32) -> usize
     ensures { Wrote (pick (is_empty (tree_of table.now symbol.now b)) (put "[invalid]") (write_first flags (tree_of table.now symbol.now b))) text.old o text.new result }
 {
@@ -447,7 +449,7 @@ fn structor(table: &[u32], symbol: &[u8], text: &mut [u8], o: usize, b: usize, f
 }
 
 // The scope's first name, as a destructor.
-#[cycle(back_cast_class_destructor_entry_front_function_leading_member_name_one_own_own_operator_params_parsed_pointee_pointer_returned_run_scope_structor_types_vftable)]
+#[cycle(writers)]
 fn destructor(
     table: &[u32],
     symbol: &[u8],
@@ -466,7 +468,7 @@ fn destructor(
 }
 
 // A conversion to what the function of `up` returns.
-#[cycle(back_cast_class_destructor_entry_front_function_leading_member_name_one_own_own_operator_params_parsed_pointee_pointer_returned_run_scope_structor_types_vftable)]
+#[cycle(writers)]
 fn cast(table: &[u32], symbol: &[u8], text: &mut [u8], o: usize, up: usize, flags: u32) -> usize
     ensures { Wrote (cast_of flags (tree_of table.now symbol.now up)) text.old o text.new result }
 {
@@ -484,7 +486,7 @@ fn cast(table: &[u32], symbol: &[u8], text: &mut [u8], o: usize, up: usize, flag
 }
 
 // One name of a scope, or a template's.
-#[cycle(back_cast_class_destructor_entry_front_function_leading_member_name_one_own_own_operator_params_parsed_pointee_pointer_returned_run_scope_structor_types_vftable)]
+#[cycle(writers)]
 fn one(table: &[u32], symbol: &[u8], text: &mut [u8], o: usize, r: usize, flags: u32) -> usize
     ensures { Wrote (write_one_name flags (tree_of table.now symbol.now r)) text.old o text.new result }
 {
@@ -542,7 +544,7 @@ fn descriptor(table: &[u32], text: &mut [u8], o: usize, n: usize, flags: u32) ->
 }
 
 // A template's parameters.
-#[cycle(back_cast_class_destructor_entry_front_function_leading_member_name_one_own_own_operator_params_parsed_pointee_pointer_returned_run_scope_structor_types_vftable)]
+#[cycle(writers)]
 fn params(table: &[u32], symbol: &[u8], text: &mut [u8], o: usize, r: usize, flags: u32) -> usize
     ensures { Wrote (write_tmpl_params (tree_of table.now symbol.now r) (write_types flags (tree_of table.now symbol.now r))) text.old o text.new result }
 {
@@ -556,7 +558,7 @@ fn params(table: &[u32], symbol: &[u8], text: &mut [u8], o: usize, r: usize, fla
 }
 
 // A scope, outermost name first: from the last place to the first.
-#[cycle(back_cast_class_destructor_entry_front_function_leading_member_name_one_own_own_operator_params_parsed_pointee_pointer_returned_run_scope_structor_types_vftable)]
+#[cycle(writers)]
 fn scope(table: &[u32], symbol: &[u8], text: &mut [u8], o: usize, r: usize, flags: u32) -> usize
     ensures { Wrote (write_scope flags (tree_of table.now symbol.now r)) text.old o text.new result }
 {

@@ -1,5 +1,7 @@
 // Replays readings with their text, a line of standard input each: a flag word in eight digits, the room for the text in four, a space, and a symbol.
 // Prints the line, the number (0, 6, or the reader's), and what the call left in the text: up to three bytes after a text that fitted.
+#![tactic(auto)]
+
 ghost use Rattle.std.specs.Prelude.{◌≤◌, ◌+◌, length};
 
 use grammar::Refusal;
