@@ -1,0 +1,11 @@
+-- Assumes nothing.
+use Rattle.letters.specs.Classes.{read_qualifier}
+use Rattle.scan.proofs.Laws.{split, past}
+use Rattle.letters.proofs.read_qualifier.Goals as goal
+
+pub returns-then-at-s : goal.returns-then-at-s
+returns-then-at-s c = rw (split c.args.s.now c.args.at c.if-at-s.true) (c.qualifier.ensures _)
+
+pub returns-else-at-s : goal.returns-else-at-s
+unfolding read_qualifier
+returns-else-at-s c = rw (past c.args.s.now c.args.at c.if-at-s.false)

@@ -1,0 +1,11 @@
+-- Assumes nothing.
+use Rattle.std.proofs.Common.{refl}
+use Rattle.text.proofs.Seq.{wrote-full}
+use Rattle.text.proofs.Stores.{wrote-part}
+use Rattle.text.proofs.buffer.put_bytes.Goals as goal
+
+pub returns-then-text-o : goal.returns-then-text-o
+returns-then-text-o c = wrote-full _ _ _ c.if-text-o.true
+
+pub returns : goal.returns
+returns c = wrote-part _ _ _ c.if-text-o.false c.fill.ensures refl c.advance.ensures
