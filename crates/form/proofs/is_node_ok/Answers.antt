@@ -15,26 +15,26 @@ are_refs_ok-requires c = (c.shape_of-shape.ensures ∙ ap whole_shape c.kind.ens
 
 pub returns-then-not-are_refs_ok : goal.returns-then-not-are_refs_ok
 unfolding node_ok whole_shape
-returns-then-not-are_refs_ok c = rw ((ne_eqb _ 0 (λ e. c.if-shape-eq0.false ((ap (λ (x : Shape). x.class) (c.shape_of-shape.ensures ∙ ap whole_shape c.kind.ensures)) ∙ e))), sym c.are_refs_ok.ensures ∙ not-true _ c.if-not-are_refs_ok.true)
+returns-then-not-are_refs_ok c = rw ((ne_eqb _ 0 (λ e. c.if-shape-eq0.false ((ap (λ (x : Shape). x.class) (c.shape_of-shape.ensures ∙ ap whole_shape c.kind.ensures)) ∙ e))), sym c.are_refs_ok.ensures ∙ c.if-not-are_refs_ok.true)
 
 pub are_numbers_ok-requires : goal.are_numbers_ok-requires
 are_numbers_ok-requires c = (c.shape_of-shape.ensures ∙ ap whole_shape c.kind.ensures)
 
 pub returns-then-not-are_numbers_ok : goal.returns-then-not-are_numbers_ok
 unfolding node_ok whole_shape
-returns-then-not-are_numbers_ok c = rw ((ne_eqb _ 0 (λ e. c.if-shape-eq0.false ((ap (λ (x : Shape). x.class) (c.shape_of-shape.ensures ∙ ap whole_shape c.kind.ensures)) ∙ e))), (sym c.are_refs_ok.ensures ∙ not-false _ c.if-not-are_refs_ok.false), sym c.are_numbers_ok.ensures ∙ not-true _ c.if-not-are_numbers_ok.true)
+returns-then-not-are_numbers_ok c = rw ((ne_eqb _ 0 (λ e. c.if-shape-eq0.false ((ap (λ (x : Shape). x.class) (c.shape_of-shape.ensures ∙ ap whole_shape c.kind.ensures)) ∙ e))), (sym c.are_refs_ok.ensures ∙ c.if-not-are_refs_ok.false), sym c.are_numbers_ok.ensures ∙ c.if-not-are_numbers_ok.true)
 
 pub is_range_ok-requires : goal.is_range_ok-requires
 is_range_ok-requires c = (c.shape_of-shape.ensures ∙ ap whole_shape c.kind.ensures)
 
 pub returns-then-not-is_range_ok : goal.returns-then-not-is_range_ok
 unfolding node_ok whole_shape
-returns-then-not-is_range_ok c = rw ((ne_eqb _ 0 (λ e. c.if-shape-eq0.false ((ap (λ (x : Shape). x.class) (c.shape_of-shape.ensures ∙ ap whole_shape c.kind.ensures)) ∙ e))), (sym c.are_refs_ok.ensures ∙ not-false _ c.if-not-are_refs_ok.false), (sym c.are_numbers_ok.ensures ∙ not-false _ c.if-not-are_numbers_ok.false), sym c.is_range_ok.ensures ∙ not-true _ c.if-not-is_range_ok.true)
+returns-then-not-is_range_ok c = rw ((ne_eqb _ 0 (λ e. c.if-shape-eq0.false ((ap (λ (x : Shape). x.class) (c.shape_of-shape.ensures ∙ ap whole_shape c.kind.ensures)) ∙ e))), (sym c.are_refs_ok.ensures ∙ c.if-not-are_refs_ok.false), (sym c.are_numbers_ok.ensures ∙ c.if-not-are_numbers_ok.false), sym c.is_range_ok.ensures ∙ c.if-not-is_range_ok.true)
 
 pub returns-then-not-is_rest_ok : goal.returns-then-not-is_rest_ok
 unfolding node_ok whole_shape
-returns-then-not-is_rest_ok c = rw ((ne_eqb _ 0 (λ e. c.if-shape-eq0.false ((ap (λ (x : Shape). x.class) (c.shape_of-shape.ensures ∙ ap whole_shape c.kind.ensures)) ∙ e))), (sym c.are_refs_ok.ensures ∙ not-false _ c.if-not-are_refs_ok.false), (sym c.are_numbers_ok.ensures ∙ not-false _ c.if-not-are_numbers_ok.false), (sym c.is_range_ok.ensures ∙ not-false _ c.if-not-is_range_ok.false), sym c.is_rest_ok.ensures ∙ not-true _ c.if-not-is_rest_ok.true)
+returns-then-not-is_rest_ok c = rw ((ne_eqb _ 0 (λ e. c.if-shape-eq0.false ((ap (λ (x : Shape). x.class) (c.shape_of-shape.ensures ∙ ap whole_shape c.kind.ensures)) ∙ e))), (sym c.are_refs_ok.ensures ∙ c.if-not-are_refs_ok.false), (sym c.are_numbers_ok.ensures ∙ c.if-not-are_numbers_ok.false), (sym c.is_range_ok.ensures ∙ c.if-not-is_range_ok.false), sym c.is_rest_ok.ensures ∙ c.if-not-is_rest_ok.true)
 
 pub returns : goal.returns
 unfolding node_ok whole_shape
-returns c = rw ((ne_eqb _ 0 (λ e. c.if-shape-eq0.false ((ap (λ (x : Shape). x.class) (c.shape_of-shape.ensures ∙ ap whole_shape c.kind.ensures)) ∙ e))), (sym c.are_refs_ok.ensures ∙ not-false _ c.if-not-are_refs_ok.false), (sym c.are_numbers_ok.ensures ∙ not-false _ c.if-not-are_numbers_ok.false), (sym c.is_range_ok.ensures ∙ not-false _ c.if-not-is_range_ok.false), (sym c.is_rest_ok.ensures ∙ not-false _ c.if-not-is_rest_ok.false)) c.is_height_ok.ensures
+returns c = rw ((ne_eqb _ 0 (λ e. c.if-shape-eq0.false ((ap (λ (x : Shape). x.class) (c.shape_of-shape.ensures ∙ ap whole_shape c.kind.ensures)) ∙ e))), (sym c.are_refs_ok.ensures ∙ c.if-not-are_refs_ok.false), (sym c.are_numbers_ok.ensures ∙ c.if-not-are_numbers_ok.false), (sym c.is_range_ok.ensures ∙ c.if-not-is_range_ok.false), (sym c.is_rest_ok.ensures ∙ c.if-not-is_rest_ok.false)) c.is_height_ok.ensures

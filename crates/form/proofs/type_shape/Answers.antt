@@ -8,9 +8,13 @@ use Prim.Native.Nat.{◌≤◌}
 use mathlib.Core.Logic.{⊎_elim}
 use Rattle.form.proofs.Formed.{no-shape, past}
 use Rattle.form.proofs.type_shape.Goals as goal
+use Rattle.form.proofs.type_shape.Goals.{In_default, in_default-via-then-kind-lt18, in_default-via-else-kind-lt18+else-kind-lt23+else-kind-lt31+else-kind-lt38+else-kind-lt60+else-kind-lt63}
 
-unknown : (c : tie.Joined1) → 64 ≤ c.before.before.args.kind
-unknown c = ⊎_elim (λ w. omega (arith, w.taken, c.before.before.requires)) (λ w. past _ w.5.left c.before.match.rest.1) c.if1.branch
+unknown : (c : In_default) → 64 ≤ c.args.kind
+unknown c = elim c.in_default.branch [
+      in_default-via-then-kind-lt18 w ↦ omega (arith, w.if-kind-lt18-1.true, c.requires)
+    | in_default-via-else-kind-lt18+else-kind-lt23+else-kind-lt31+else-kind-lt38+else-kind-lt60+else-kind-lt63 w ↦ past _ w.if-kind-lt63-1.false c.in_default-1.rest.1
+    ]
 
 pub returns-in-18 : goal.returns-in-18
 unfolding whole_shape shape_of
@@ -82,4 +86,4 @@ returns-in-61-to-62 c = c.row-in-61-to-62.ensures ∙ off-keys (63 ∷ 60 ∷ 32
 
 pub returns-in_default : goal.returns-in_default
 unfolding whole_shape shape_of
-returns-in_default c = c.row-in_default.ensures ∙ no-shape _ (unknown c)
+returns-in_default c = c.row-in_default.ensures ∙ no-shape _ (unknown (goal.at.returns-in_default c).In_default)

@@ -41,7 +41,7 @@ returns-in-56 c = λ rest. rw c.in-56.is
 
 pub returns-in-48-to-52 : goal.returns-in-48-to-52
 unfolding symbol_start
-returns-in-48-to-52 known = λ rest. on-range 48 5 (λ known. typed (Variable (c - 48)) 1) (λ known. symbol_start (c ∷ rest)) refl known.args.c (omega arith) (omega arith)
+returns-in-48-to-52 known = λ rest. on-range 48 5 (λ c. typed (Variable (c - 48)) 1) (λ c. symbol_start (c ∷ rest)) refl known.args.c (omega arith) (omega arith)
 
 pub returns-in_default : goal.returns-in_default
 unfolding symbol_start

@@ -30,7 +30,7 @@ returns-in-85 c = λ rest. rw c.in-85.is
 
 pub returns-in-74-to-77 : goal.returns-in-74-to-77
 unfolding type_letter
-returns-in-74-to-77 known = λ rest. on-range 74 4 (λ known. head (Basic (c - 63)) 2) (λ known. type_letter (95 ∷ c ∷ rest)) refl known.args.c (omega arith) (omega arith)
+returns-in-74-to-77 known = λ rest. on-range 74 4 (λ c. head (Basic (c - 63)) 2) (λ c. type_letter (95 ∷ c ∷ rest)) refl known.args.c (omega arith) (omega arith)
 
 pub returns-in_default : goal.returns-in_default
 unfolding type_letter
