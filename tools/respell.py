@@ -14,7 +14,7 @@ import re
 import sys
 
 # a lemma beside the definition whose name it would have
-BESIDE = {"crates/grammar/proofs/Rows.antt": ["node_ok", "number_ok", "rest_ok"]}
+BESIDE = {"crates/grammar/proofs/Rows.antt": {"node_ok": "nodeOk", "number_ok": "numberOk", "rest_ok": "restOk"}}
 
 
 def snake(word):
@@ -55,8 +55,9 @@ def main():
     for path in paths:
         with open(path, encoding="utf8") as f:
             text = f.read()
-        for lemma in BESIDE.get(path, []):
-            text = re.sub(rf"(?<![\w'-]){lemma}(?![\w'-])", lemma + "_lem", text)
+        for lemma, definition in BESIDE.get(path, {}).items():
+            if definition in text:
+                text = re.sub(rf"(?<![\w'-]){lemma}(?![\w'-])", lemma + "_lem", text)
         new[path] = respelled(text, path.endswith(".rt"), said)
     made = collections.defaultdict(set)
     for word in said:

@@ -187,7 +187,7 @@ module _ (x : Setting Asks Gives) (short : length x.symbol ≤ kind.any) where
   scope-from-ok : {w : World} {h : ℕ} (turns last : ℕ) → Known name_list w.nodes last h → Ok w 0 h (scope_from turns last) (ListIs name_list)
   unfolding scope_from
   scope-from-ok zero last k = fails
-  scope-from-ok {h = h} (suc turns) last k = on "@" (ends h k (omega arith)) (then nesteds (λ n. through (name-places n.value (since n k) n.holds (omega arith)) (λ next. scope-from-ok turns next.value next.holds)))
+  scope-from-ok {w = w} {h = h} (suc turns) last k = on "@" (ends h k (omega arith)) (then nesteds (λ n. through (name-places n.value (since n k) n.holds (omega arith)) (λ next. scope-from-ok {w = next.world} turns next.value next.holds)))
 
   scope-ok : {w : World} → Ok w 0 0 scope (ListIs name_list)
   unfolding scope

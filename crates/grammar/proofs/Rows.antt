@@ -20,7 +20,7 @@ use borrow.Author.Tests.{eqb-true, lt-ltb, le-ltb, le-leb, eq-eqb, ne_eqb}
 use Rattle.node.specs.Cells as table
 use Rattle.node.specs.Kind.{kind_number, AnonymousId, Anonymous}
 use Rattle.form.specs.Kinds.{nothing, plain, scoped, shapes, shape_of}
-use Rattle.form.specs.Form.{fits, ref_ok, refs_ok, number_ok_lem, numbers_ok, range_ok, rest_ok_lem, height_ok, node_ok_lem, well_formed}
+use Rattle.form.specs.Form.{fits, ref_ok, refs_ok, number_ok, numbers_ok, range_ok, rest_ok, height_ok, node_ok, well_formed}
 use Rattle.form.proofs.Formed.{formed-more}
 use Rattle.scan.specs.Bytes.{pick}
 use Rattle.grammar.specs.Counts.{Node, height_of, tallest, rises}
@@ -365,8 +365,8 @@ module _ (long : ℕ) (front : List Node) (n : Node) (tail : List ℕ) (ok : Nod
       )
       (ref-ok (cells_at n ++ tail) front _ _ (ref-at ok.refs 2 (omega arith)))
 
-  number_ok_lem : (j v : ℕ) → table.cell_of t i (7 + j) ≡ v → v ≤ shape_of n.kind (4 + j) → number_ok_lem t i j ≡ true
-  unfolding number_ok_lem
+  number_ok_lem : (j v : ℕ) → table.cell_of t i (7 + j) ≡ v → v ≤ shape_of n.kind (4 + j) → number_ok t i j ≡ true
+  unfolding number_ok
   number_ok_lem j v e l = rw (own-kind, e) (le-leb v (shape_of n.kind (4 + j)) l)
 
   numbers-ok : numbers_ok t i ≡ true
@@ -382,8 +382,8 @@ module _ (long : ℕ) (front : List Node) (n : Node) (tail : List ℕ) (ok : Nod
       rw (own-kind, cell-own tail front n 7 (omega arith), cell-own tail front n 8 (omega arith))
       (range-ok long (get_or (row_of n.kind) 8 0) (get_or n.numbers 0 0 + get_or n.numbers 1 0) ok.numbers.1)
 
-  rest_ok_lem : rest_ok_lem t i ≡ true
-  unfolding rest_ok_lem
+  rest_ok_lem : rest_ok t i ≡ true
+  unfolding rest_ok
   rest_ok_lem = rw (cell-own tail front n 2 (omega arith), cell-own tail front n 3 (omega arith), cell-own tail front n 11 (omega arith))
 
   ref-height : (j : ℕ) → j < 3 → table.height_at t (get_or n.refs j 0) ≡ height_of front (get_or n.refs j 0)
@@ -396,8 +396,8 @@ module _ (long : ℕ) (front : List Node) (n : Node) (tail : List ℕ) (ok : Nod
       (rw (ref-height 0 (omega arith), ref-height 1 (omega arith), ref-height 2 (omega arith))
       (eq-eqb _ _ (ok.height ∙ omega (arith, refs-tallest ok.refs, tallest-three front n.refs (refs-few ok.refs), same-rise (leb n.kind 2)))))
 
-  node_ok_lem : node_ok_lem t long i ≡ true
-  unfolding node_ok_lem shape_of
+  node_ok_lem : node_ok t long i ≡ true
+  unfolding node_ok shape_of
   node_ok_lem = rw (own-kind, ne_eqb (get_or (row_of n.kind) 0 0) 0 ok.known, refs-ok, numbers-ok, in-range-ok, rest_ok_lem) heights-ok
 
 -- formed nodes are a well-formed table, whatever stands behind them
