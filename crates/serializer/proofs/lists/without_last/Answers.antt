@@ -13,11 +13,10 @@ pub returns-then-q-eq0 : goal.returns-then-q-eq0
 returns-then-q-eq0 c = (λ s. tree-none _ s 0 refl ∙ sym (c.loop-i.invariant.1 s ∙ (without-skip _ (c.skip_packs-q.ensures.0 s) c.loop-i.i c.loop-i-test.true) ∙ without-nil _ s c.if-q-eq0.true _), search rules, λ l m. m)
 
 pub loop-i-preserved : goal.loop-i-preserved
-loop-i-preserved c =
-    let at-loop = c in (
-      omega (arith, c.skip_packs-q.ensures.1, c.kid-p.ensures.1),
-      λ s. at-loop.loop.invariant.1 s ∙ (without-skip _ (c.skip_packs-q.ensures.0 s) at-loop.loop.i c.loop-i-test.true) ∙ without-one _ s (omega arith) (c.skip_packs-q.ensures.2 (omega arith) s) c.kid-p.ensures.0 at-loop.loop.i c.loop-i-test.true,
-    )
+loop-i-preserved c = (
+  omega (arith, c.skip_packs-q.ensures.1, c.kid-p.ensures.1),
+  λ s. c.loop-i.invariant.1 s ∙ (without-skip _ (c.skip_packs-q.ensures.0 s) c.loop-i.i c.loop-i-test.true) ∙ without-one _ s (omega arith) (c.skip_packs-q.ensures.2 (omega arith) s) c.kid-p.ensures.0 c.loop-i.i c.loop-i-test.true,
+)
 
 pub returns : goal.returns
 returns c =

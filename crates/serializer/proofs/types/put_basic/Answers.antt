@@ -6,24 +6,31 @@ use Rattle.text.proofs.Seq.{wrote_none, wrote-is}
 use Rattle.serializer.specs.Serializer.{write_basic}
 use Rattle.serializer.proofs.Spelled.{renamed-is, not-renamed, basic-below, basic-above, no-basic-below, no-basic-above}
 use Rattle.serializer.proofs.types.put_basic.Goals as goal
-
-below : (c : tie.Joined2) → c.before.before.before.args.k < 60
-below c = ⊎_elim (λ w. omega (arith, w.taken)) (λ w. w.2.taken) c.if2.branch
-
-basic-is : (c : tie.Joined2) → write_basic c.before.before.before.args.flags c.before.before.before.args.k ≡ lit (word (75 + (c.before.before.before.args.k - 38)))
-basic-is c = ⊎_elim (λ w. basic-below _ _ c.before.if1.false w.taken) (λ w. basic-above _ _ w.1.left w.2.taken) c.if2.branch
+use Rattle.serializer.proofs.types.put_basic.Goals.{then-k-lt49, else-k-lt49+else-k-lt53+then-k-lt60}
 
 pub returns-then-flags-eq1 : goal.returns-then-flags-eq1
 returns-then-flags-eq1 c = wrote-is (renamed-is _ _ (eq-eqb _ _ c.if-flags-eq1.true) c.in-49-to-52.if-k-lt49-own.false c.in-49-to-52.if-k-lt53-own.true) c.put_word.ensures
 
 pub overflow_add-k-in-38-to-59 : goal.overflow_add-k-in-38-to-59
-overflow_add-k-in-38-to-59 c = record { fits = omega (arith, below c) }
+overflow_add-k-in-38-to-59 c =
+    let below : c.args.k < 60 =
+    elim c.in-38-to-59.branch [
+      | then-k-lt49 w ↦ omega (arith, w.if-k-lt49-1.true)
+      | else-k-lt49+else-k-lt53+then-k-lt60 w ↦ w.if-k-lt60-1.true
+    ] in
+    record { fits = omega (arith, below) }
 
 pub returns-else-flags-eq1 : goal.returns-else-flags-eq1
 returns-else-flags-eq1 c = wrote-is (not-renamed _ _ (ne_eqb _ _ c.if-flags-eq1.false) c.in-49-to-52.if-k-lt49-own.false c.in-49-to-52.if-k-lt53-own.true) c.put_word-in-49-to-52.ensures
 
 pub returns-in-38-to-59 : goal.returns-in-38-to-59
-returns-in-38-to-59 c = wrote-is (basic-is c) c.put_word-in-38-to-59.ensures
+returns-in-38-to-59 c =
+    let named : write_basic c.args.flags c.args.k ≡ lit (word (75 + (c.args.k - 38))) =
+    elim c.in-38-to-59.branch [
+      | then-k-lt49 w ↦ basic-below _ _ c.if-k-lt38-1.false w.if-k-lt49-1.true
+      | else-k-lt49+else-k-lt53+then-k-lt60 w ↦ basic-above _ _ w.if-k-lt53-1.false w.if-k-lt60-1.true
+    ] in
+    wrote-is named c.put_word-in-38-to-59.ensures
 
 pub returns-in_default : goal.returns-in_default
 returns-in_default c = wrote-is (no-basic-below _ _ c.in_default.if-k-lt38-own.true) (wrote_none _ _)

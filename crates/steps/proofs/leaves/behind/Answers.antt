@@ -1,0 +1,5 @@
+-- Assumes nothing.
+use Rattle.steps.proofs.leaves.behind.Goals as goal
+
+pub returns : goal.returns
+returns c = rw c.past.ensures
