@@ -22,6 +22,7 @@ use Rattle.text.specs.Spaces.{asks_by, write_space, or}
 use Rattle.serializer.specs.Pieces.{guard_of, cast_of}
 use Rattle.serializer.proofs.Chain.{ones_halves, ones-one, ones-zero, types-count}
 use Rattle.writer.proofs.+writers.Goals as goal
+use Rattle.writer.proofs.+writers.Goals.{front-in_default-via-then-k-lt28, front-in_default-via-else-k-lt28+else-k-lt31+else-k-lt38, own-in_default-via-then-k-lt14, own-in_default-via-else-k-lt14+else-k-lt17}
 
 pub back-returns-then-text-o : goal.back-returns-then-text-o
 back-returns-then-text-o t c = wrote-full _ _ _ c.if-text-o.true
@@ -197,7 +198,7 @@ pub front-returns-in-33-to-37 : goal.front-returns-in-33-to-37
 front-returns-in-33-to-37 t c = c.class.ensures
 
 pub front-returns-in_default : goal.front-returns-in_default
-front-returns-in_default t c = wrote-is (pre-plain _ _ _ (omega arith) c.kind-k.ensures c.number-in_default.ensures c.number-in_default-2.ensures c.in_default-1.rest.0.0.0.0.1 c.in_default-1.rest.0.0.0.1 c.in_default-1.rest.0.0.1 c.in_default-1.rest.0.1 c.in_default-1.rest.1 (⊎_elim (λ w. inl (omega (arith, w))) (λ w. inr (omega (arith, w))) c.in_default.branch)) c.put_plain.ensures
+front-returns-in_default t c = wrote-is (pre-plain _ _ _ (omega arith) c.kind-k.ensures c.number-in_default.ensures c.number-in_default-2.ensures c.in_default-1.rest.0.0.0.0.1 c.in_default-1.rest.0.0.0.1 c.in_default-1.rest.0.0.1 c.in_default-1.rest.0.1 c.in_default-1.rest.1 (elim c.in_default.branch [ front-in_default-via-then-k-lt28 w ↦ inl (omega (arith, w.if-k-lt28-1.true)) | front-in_default-via-else-k-lt28+else-k-lt31+else-k-lt38 w ↦ inr (omega (arith, w.if-k-lt38-1.false)) ])) c.put_plain.ensures
 
 pub function-types-o2-requires : goal.function-types-o2-requires
 function-types-o2-requires t c = omega (arith, c.requires-raw, under c.kid.result c.args.r (omega (arith, c.kid.ensures.1, c.requires.0)))
@@ -309,7 +310,7 @@ pub own-returns-in-15-to-16 : goal.own-returns-in-15-to-16
 own-returns-in-15-to-16 t c = wrote-is (own-anonymous c.args.flags _ _ (omega arith) c.kind-k.ensures _ _ _ _ _ _ (omega (arith, c.in-15-to-16.if-k-lt14-own.false)) (omega (arith, c.in-15-to-16.if-k-lt17-own.true))) (wrote_none _ _)
 
 pub own-returns-in_default : goal.own-returns-in_default
-own-returns-in_default t c = wrote-is (own-rest c.args.flags _ _ (omega arith) c.kind-k.ensures _ _ _ _ _ _ c.in_default-1.rest.0.1 c.in_default-1.rest.1 (⊎_elim (λ w. inl (omega (arith, w))) (λ w. inr (omega (arith, w))) c.in_default.branch)) c.one.ensures
+own-returns-in_default t c = wrote-is (own-rest c.args.flags _ _ (omega arith) c.kind-k.ensures _ _ _ _ _ _ c.in_default-1.rest.0.1 c.in_default-1.rest.1 (elim c.in_default.branch [ own-in_default-via-then-k-lt14 w ↦ inl (omega (arith, w.if-k-lt14-1.true)) | own-in_default-via-else-k-lt14+else-k-lt17 w ↦ inr (omega (arith, w.if-k-lt17-1.false)) ])) c.one.ensures
 
 pub own_operator-structor-requires : goal.own_operator-structor-requires
 own_operator-structor-requires t c = omega (arith, c.requires-raw, under c.args.b c.args.up c.requires)
