@@ -10,7 +10,7 @@ use lib.Dec.{leb}
 use lib.ListN.{length, drop}
 use Rattle.scan.specs.Bytes.{pick, bytes, starts}
 use Rattle.grammar.specs.Program.{ret, sub}
-use Rattle.grammar.specs.Words.{◌>>=◌, ◌⇒◌∥◌, ◌↝◌∥◌, digit, at_end}
+use Rattle.grammar.specs.Words.{◌⇒◌∥◌, ◌↝◌∥◌, digit, at_end}
 use Rattle.node.specs.Kind.{NamePlace}
 use Rattle.grammar.specs.Grammar.{place, nested_name, scope_from, scope, list_end, stored_param, new_param, params_from, params}
 use Rattle.grammar.specs.declared.Refusal.TheVariants.{Syntax}

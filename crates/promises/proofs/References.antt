@@ -1,10 +1,8 @@
 -- A reference and an rvalue reference to the same type differ in the mark. Assumes nothing.
-use Prim.Native.Nat.{ℕ}
 use Prim.Native.Char.{code}
 use mathlib.Core.Path.{refl, sym, ◌∙◌}
-use mathlib.Core.List.{List, ◌++◌, append_assoc}
+use mathlib.Core.List.{◌++◌, append_assoc}
 use Rattle.scan.specs.Bytes.{bytes}
-use Rattle.meaning.specs.Tree.{Tree}
 use Rattle.text.specs.Emit.{last_of, lit, ◌⨾◌}
 use Rattle.serializer.specs.Serializer.{p, write_pre, write_post, write_return, write_pointee, write_hug, write_storage_class}
 use Rattle.promises.specs.Promises.{ReferencesAlike}

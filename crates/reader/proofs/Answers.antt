@@ -10,7 +10,6 @@ use lib.ListN.{length, drop, replicate}
 use Rattle.scan.specs.Bytes.{pick}
 use Rattle.node.specs.Cells.{nodes}
 use Rattle.grammar.specs.Program.{found, refused, Out}
-use Rattle.grammar.specs.Counts.{Node}
 use Rattle.grammar.specs.Table.{read_table}
 use Rattle.grammar.specs.Grammar.{Parse, body}
 use Rattle.grammar.specs.declared.State.{State}

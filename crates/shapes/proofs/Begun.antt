@@ -27,7 +27,7 @@ use Rattle.grammar.proofs.Ordered.{no_bytes}
 use Rattle.grammar.proofs.Funded.{true-false}
 use Rattle.steps.specs.Does.{full, Lent, further, does, Meets, Leads}
 use Rattle.steps.specs.declared.state.Spot.{Spot}
-use Rattle.steps.specs.declared.state.Value.TheVariants.{Is, Bad}
+use Rattle.steps.specs.declared.state.Value.TheVariants.{Is}
 use Rattle.steps.specs.declared.state.Took.{Took}
 use Rattle.steps.proofs.Leads.{leads-refl, leads-on, leads-look, leads-when, leads-else, leads-ret, leads-sub, leads-fail, leads-expects, leads-ordered}
 use Rattle.shapes.specs.Shapes.{name_form_of, shape_name}

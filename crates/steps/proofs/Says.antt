@@ -28,7 +28,6 @@ use Rattle.grammar.proofs.Leaves.{ReferenceFits, reference-fits}
 use Rattle.grammar.proofs.Funded.{true-false}
 use Rattle.steps.specs.Does.{Lent, full, further, does, valued, Values, Classes, took_leaf, took_span, classed_at, LeafRoom, SpanRoom, ClassRoom, Digits, took_reference, Refers}
 use Rattle.steps.specs.declared.state.Spot.{Spot}
-use Rattle.steps.specs.declared.state.Value.{Value}
 use Rattle.steps.specs.declared.state.Value.TheVariants.{Is, Bad}
 use Rattle.steps.specs.declared.state.Took.{Took}
 use Rattle.steps.specs.declared.state.Classed.{Classed}

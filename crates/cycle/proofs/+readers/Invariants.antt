@@ -1,10 +1,9 @@
-use Prim.Native.Nat.{◌-◌}
 use Rattle.grammar.specs.Grammar.{params, scope, params_from, scope_from}
 use mathlib.Core.Path.{◌≡◌}
 use Rattle.steps.specs.Does.{plain, Lent, lent, Does}
 use lib.ListN.{length}
 use Rattle.steps.specs.declared.state.Got.{Got}
-use Prim.Native.Nat.{◌+◌, ◌*◌, ◌-◌}
+use Prim.Native.Nat.{◌+◌, ◌*◌}
 use Rattle.cycle.proofs.+readers.Given as goal
 
 abbrev pub decreases-array : goal.decreases-array

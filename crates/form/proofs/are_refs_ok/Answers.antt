@@ -1,6 +1,5 @@
 -- Assumes nothing.
 use mathlib.Core.Path.{◌∙◌, sym, ap}
-use borrow.Author.Tests.{not-true, not-false}
 use Rattle.form.specs.declared.Shape.{Shape}
 use Rattle.form.specs.Kinds.{whole_shape}
 use Rattle.form.specs.Form.{refs_ok}

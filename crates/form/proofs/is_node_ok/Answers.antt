@@ -1,6 +1,6 @@
 -- Assumes nothing.
 use mathlib.Core.Path.{◌∙◌, sym, ap}
-use borrow.Author.Tests.{eq-eqb, ne_eqb, not-true, not-false}
+use borrow.Author.Tests.{eq-eqb, ne_eqb}
 use Rattle.form.specs.Kinds.{whole_shape}
 use Rattle.form.specs.Form.{node_ok}
 use Rattle.form.specs.declared.Shape.{Shape}

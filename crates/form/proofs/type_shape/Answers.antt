@@ -5,16 +5,15 @@ use native.Mathlib.Omega.{arith}
 use Rattle.scan.proofs.Laws.{off-keys}
 use Rattle.form.specs.Kinds.{shape_of, whole_shape}
 use Prim.Native.Nat.{◌≤◌}
-use mathlib.Core.Logic.{⊎_elim}
 use Rattle.form.proofs.Formed.{no-shape, past}
 use Rattle.form.proofs.type_shape.Goals as goal
 use Rattle.form.proofs.type_shape.Goals.{In_default, in_default-via-then-kind-lt18, in_default-via-else-kind-lt18+else-kind-lt23+else-kind-lt31+else-kind-lt38+else-kind-lt60+else-kind-lt63}
 
 unknown : (c : In_default) → 64 ≤ c.args.kind
 unknown c = elim c.in_default.branch [
-      in_default-via-then-kind-lt18 w ↦ omega (arith, w.if-kind-lt18-1.true, c.requires)
-    | in_default-via-else-kind-lt18+else-kind-lt23+else-kind-lt31+else-kind-lt38+else-kind-lt60+else-kind-lt63 w ↦ past _ w.if-kind-lt63-1.false c.in_default-1.rest.1
-    ]
+  | in_default-via-then-kind-lt18 w ↦ omega (arith, w.if-kind-lt18-1.true, c.requires)
+  | in_default-via-else-kind-lt18+else-kind-lt23+else-kind-lt31+else-kind-lt38+else-kind-lt60+else-kind-lt63 w ↦ past _ w.if-kind-lt63-1.false c.in_default-1.rest.1
+]
 
 pub returns-in-18 : goal.returns-in-18
 unfolding whole_shape shape_of

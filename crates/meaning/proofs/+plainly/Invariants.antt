@@ -1,4 +1,4 @@
-use Prim.Native.Nat.{◌+◌, ◌*◌, ◌-◌}
+use Prim.Native.Nat.{◌+◌, ◌*◌}
 use Rattle.meaning.proofs.+plainly.Given as goal
 
 abbrev pub decreases-plain : goal.decreases-plain

@@ -3,7 +3,7 @@ use mathlib.Core.Path.{◌≡◌}
 use Rattle.meaning.specs.Tree.{eq_tree, tree_of}
 use lib.ListN.{length}
 use Rattle.meaning.specs.Links.{Links}
-use Prim.Native.Nat.{◌+◌, ◌*◌, ◌-◌}
+use Prim.Native.Nat.{◌+◌, ◌*◌}
 use Rattle.meaning.proofs.+walks.Given as goal
 
 abbrev pub decreases-linked : goal.decreases-linked

@@ -2,7 +2,7 @@
 -- Assumes nothing.
 use Prim.Native.Nat.{◌/◌}
 use mathlib.Core.Path.{◌∙◌, refl, sym, ap, ap₂}
-use mathlib.Core.Logic.{inl, inr, ⊎_elim}
+use mathlib.Core.Logic.{inl, inr}
 use native.Mathlib.Omega.{arith}
 use Rattle.meaning.specs.Tree.{content_of, tree_of}
 use Rattle.text.specs.Emit.{put, when, lit, ◌⨾◌, unless}

@@ -5,7 +5,7 @@ use Rattle.text.specs.Emit.{Wrote}
 use Rattle.serializer.specs.Serializer.{write_scope}
 use mathlib.Core.List.{List}
 use lib.ListN.{length}
-use Prim.Native.Nat.{◌+◌, ◌*◌, ◌-◌}
+use Prim.Native.Nat.{◌+◌, ◌*◌}
 use Rattle.writer.proofs.+writers.Given as goal
 
 abbrev pub decreases-back : goal.decreases-back

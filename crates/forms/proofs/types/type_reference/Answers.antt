@@ -4,7 +4,6 @@ use mathlib.Core.Path.{sym, ◌∙◌}
 use mathlib.Core.List.{[], ◌∷◌}
 use native.Mathlib.Omega.{arith}
 use lib.Seq.{drop-drop}
-use borrow.Author.Tests.{not-true, not-false}
 use Rattle.forms.specs.Types.{type_reference}
 use Rattle.letters.proofs.Spelled.{sized-qualifier, stays}
 use Rattle.forms.proofs.Starts.{starts-at}

@@ -1,5 +1,5 @@
 -- Assumes nothing.
-use Rattle.std.proofs.Common.{◌-◌, arith, rules}
+use Rattle.std.proofs.Common.{arith, rules}
 use Rattle.meaning.specs.Tree.{tree_of}
 use Rattle.serializer.proofs.Walks.{count-nil, count-one, count-skip}
 use Rattle.serializer.proofs.lists.count_some.Goals as goal

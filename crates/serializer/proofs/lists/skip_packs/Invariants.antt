@@ -1,4 +1,4 @@
-use Rattle.std.proofs.Common.{◌≡◌, ℕ, ◌-◌, ◌≤◌, List}
+use Rattle.std.proofs.Common.{◌≡◌, ℕ, ◌≤◌, List}
 use Rattle.meaning.specs.Tree.{tree_of}
 use Rattle.serializer.specs.Lists.{skip_packs}
 use Rattle.serializer.proofs.lists.skip_packs.Given as goal

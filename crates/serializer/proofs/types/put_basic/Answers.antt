@@ -1,5 +1,5 @@
 -- Assumes nothing.
-use Rattle.std.proofs.Common.{◌≡◌, ◌+◌, ◌-◌, ◌<◌, ⊎_elim, arith, eq-eqb, ne_eqb}
+use Rattle.std.proofs.Common.{◌≡◌, ◌+◌, ◌-◌, ◌<◌, arith, eq-eqb, ne_eqb}
 use Rattle.text.specs.Emit.{lit}
 use Rattle.text.specs.Words.{word}
 use Rattle.text.proofs.Seq.{wrote_none, wrote-is}

@@ -1,5 +1,5 @@
 -- Assumes nothing.
-use Rattle.std.proofs.Common.{◌≡◌, false, ⊎_elim, eq-eqb, ne_eqb}
+use Rattle.std.proofs.Common.{◌≡◌, false, eq-eqb, ne_eqb}
 use Rattle.scan.specs.Bytes.{pick}
 use Rattle.text.specs.Emit.{Text, when}
 use Rattle.text.specs.Words.{word}

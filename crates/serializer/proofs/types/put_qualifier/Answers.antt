@@ -1,5 +1,5 @@
 -- Assumes nothing.
-use Rattle.std.proofs.Common.{◌≡◌, ⊎_elim, eq-eqb, ne_eqb}
+use Rattle.std.proofs.Common.{◌≡◌, eq-eqb, ne_eqb}
 use Rattle.text.specs.Spaces.{write_space, write_space_ptr, asks_by, space_where}
 use Rattle.text.proofs.Seq.{wrote-seq, wrote_none, wrote-is}
 use Rattle.serializer.specs.Serializer.{write_qualifier_space}

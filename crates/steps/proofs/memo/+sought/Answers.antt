@@ -1,6 +1,6 @@
 -- The functions of this cycle of calls meet their contracts. A file for each stands below this one.
 -- Assumes nothing.
-use Prim.Native.Nat.{ℕ, ◌+◌, ◌-◌}
+use Prim.Native.Nat.{ℕ, ◌+◌}
 use mathlib.Core.Path.{sym, refl, ◌∙◌}
 use native.Mathlib.Omega.{arith}
 use Rattle.meaning.specs.Tree.{tree_of, eq_tree}

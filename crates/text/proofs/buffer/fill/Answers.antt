@@ -1,5 +1,5 @@
 -- Assumes nothing.
-use Rattle.std.proofs.Common.{ℕ, ◌-◌, List, get_or, set, ap, ◌∙◌, arith, length-set}
+use Rattle.std.proofs.Common.{ℕ, List, get_or, set, ap, ◌∙◌, arith, length-set}
 use Rattle.text.proofs.Stores.{over-more, over-all, over-full}
 use Rattle.text.proofs.buffer.fill.Goals as goal
 

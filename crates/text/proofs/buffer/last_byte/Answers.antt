@@ -1,5 +1,5 @@
 -- Assumes nothing.
-use Rattle.std.proofs.Common.{◌-◌, sym, ap, ◌∙◌, ⊎_elim, arith}
+use Rattle.std.proofs.Common.{◌-◌, sym, ap, ◌∙◌, arith}
 use Rattle.text.specs.Emit.{last_at, last_of}
 use Rattle.text.proofs.Stores.{Ends, ends-within, ends-past, last-is}
 use Rattle.text.proofs.buffer.last_byte.Goals as goal
@@ -7,9 +7,9 @@ use Rattle.text.proofs.buffer.last_byte.Goals.{Joined-o-text, then-o-text, else-
 
 end_is : (c : Joined-o-text) → Ends c.args.text.now c.args.o c.if-o-text.end
 end_is c = elim c.if-o-text.branch [
-      then-o-text w ↦ ends-within _ _ _ w.if-o-text.true w.end-is
-    | else-o-text w ↦ ends-past _ _ _ w.if-o-text.false w.end-is
-    ]
+  | then-o-text w ↦ ends-within _ _ _ w.if-o-text.true w.end-is
+  | else-o-text w ↦ ends-past _ _ _ w.if-o-text.false w.end-is
+]
 
 pub returns-then-end-eq0 : goal.returns-then-end-eq0
 unfolding last_at last_of
