@@ -14,7 +14,7 @@ returns-then-flags-eq1 c = wrote-is (renamed-is _ _ (eq-eqb _ _ c.if-flags-eq1.t
 pub overflow_add-k-in-38-to-59 : goal.overflow_add-k-in-38-to-59
 overflow_add-k-in-38-to-59 c =
     let below : c.args.k < 60 =
-    elim c.in-38-to-59.branch [
+    elim c.in-38-to-59-1.branch [
       | then-k-lt49 w ↦ omega (arith, w.if-k-lt49-1.true)
       | else-k-lt49+else-k-lt53+then-k-lt60 w ↦ w.if-k-lt60-1.true
     ] in
@@ -26,7 +26,7 @@ returns-else-flags-eq1 c = wrote-is (not-renamed _ _ (ne_eqb _ _ c.if-flags-eq1.
 pub returns-in-38-to-59 : goal.returns-in-38-to-59
 returns-in-38-to-59 c =
     let named : write_basic c.args.flags c.args.k ≡ lit (word (75 + (c.args.k - 38))) =
-    elim c.in-38-to-59.branch [
+    elim c.in-38-to-59-1.branch [
       | then-k-lt49 w ↦ basic-below _ _ c.if-k-lt38-1.false w.if-k-lt49-1.true
       | else-k-lt49+else-k-lt53+then-k-lt60 w ↦ basic-above _ _ w.if-k-lt53-1.false w.if-k-lt60-1.true
     ] in

@@ -6,4 +6,8 @@ pub lay-requires : goal.lay-requires
 lay-requires c = c.tallest-top.ensures.1
 
 pub returns : goal.returns
-returns c = (shuts-lays c.counted.ensures c.tallest-top.ensures.0 c.lay.ensures.0, c.lay.ensures.1)
+returns c =
+    record {
+      shuts = shuts-lays c.counted.ensures c.tallest-top.ensures.0 c.lay.ensures.lays;
+      small = c.lay.ensures.small;
+    }

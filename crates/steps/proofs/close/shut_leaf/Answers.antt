@@ -8,4 +8,4 @@ pub lay-requires : goal.lay-requires
 lay-requires c = omega arith
 
 pub returns : goal.returns
-returns c = leaf-shuts (c.args.p ∷ c.args.q ∷ []) (rw c.made.ensures at c.lay.ensures.0)
+returns c = leaf-shuts (c.args.p ∷ c.args.q ∷ []) (rw c.made.ensures at c.lay.ensures.lays)

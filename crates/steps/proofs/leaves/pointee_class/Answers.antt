@@ -10,5 +10,5 @@ returns-in-Is c = pointee-met c.expect-e.ensures c.in-Is.is c.storage_class-c.en
 pub returns-in-Bad : goal.returns-in-Bad
 returns-in-Bad c = pointee-unmet c.expect-e.ensures c.in-Bad.is c.storage_class.ensures
 
-pub ??add-t11 : goal.??add-t11
-??add-t11 c = omega (arith, storage-small c.?storage-class.ensures)
+pub overflow_add-result : goal.overflow_add-result
+overflow_add-result c = omega (arith, storage-small c.storage_class-c.ensures)

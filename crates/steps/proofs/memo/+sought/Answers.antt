@@ -18,7 +18,7 @@ pub overflow_add-e : goal.overflow_add-e
 overflow_add-e t c = omega (arith, c.shared_slice_known-3-1.given c.loop-i.i)
 
 pub sought-requires : goal.sought-requires
-sought-requires t c = (omega (arith, c.requires.0, c.loop-i.invariant.0, c.loop-i-test.true), tt)
+sought-requires t c = (omega (arith, c.decreases, c.loop-i.invariant.0, c.loop-i-test.true), tt)
 
 pub returns-then-sought-eq2 : goal.returns-then-sought-eq2
 returns-then-sought-eq2 t c = (judged-yes (c.loop-i.invariant.1 ∙ any-later (λ (e : ℕ). eq_tree (tree_of c.args.front.now c.args.s.now (c.args.n + 1)) (tree_of c.args.front.now c.args.s.now (e + 1))) c.args.entries.now c.loop-i.i c.loop-i-test.true (c.sought.ensures.0.yes (omega (arith, c.if-sought-eq2.true)))) (omega arith), λ e z. omega arith)

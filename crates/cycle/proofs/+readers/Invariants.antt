@@ -1,0 +1,125 @@
+use Prim.Native.Nat.{◌-◌}
+use Rattle.grammar.specs.Grammar.{params, scope, params_from, scope_from}
+use mathlib.Core.Path.{◌≡◌}
+use Rattle.steps.specs.Does.{plain, Lent, lent, Does}
+use lib.ListN.{length}
+use Rattle.steps.specs.declared.state.Got.{Got}
+use Prim.Native.Nat.{◌+◌, ◌*◌, ◌-◌}
+use Rattle.cycle.proofs.+readers.Given as goal
+
+abbrev pub decreases-array : goal.decreases-array
+decreases-array l = 8 * l.depth + 4
+
+abbrev pub decreases-dims : goal.decreases-dims
+decreases-dims l = 8 * l.depth + 3
+
+abbrev pub decreases-elem : goal.decreases-elem
+decreases-elem l = 8 * l.depth + 2
+
+abbrev pub decreases-fparams : goal.decreases-fparams
+decreases-fparams l = 8 * l.depth + 4
+
+abbrev pub decreases-func : goal.decreases-func
+decreases-func l = 8 * l.depth + 6
+
+abbrev pub decreases-mptr : goal.decreases-mptr
+decreases-mptr l = 8 * l.depth + 6
+
+abbrev pub decreases-name : goal.decreases-name
+decreases-name l = 8 * l.depth + 0
+
+abbrev pub decreases-named : goal.decreases-named
+decreases-named l = 8 * l.depth + 1
+
+abbrev pub decreases-nested : goal.decreases-nested
+decreases-nested l = 8 * l.depth + 0
+
+abbrev pub decreases-nname : goal.decreases-nname
+decreases-nname l = 8 * l.depth + 1
+
+abbrev pub decreases-oguard : goal.decreases-oguard
+decreases-oguard l = 8 * l.depth + 0
+
+abbrev pub decreases-oname : goal.decreases-oname
+decreases-oname l = 8 * l.depth + 0
+
+abbrev pub decreases-otmpl : goal.decreases-otmpl
+decreases-otmpl l = 8 * l.depth + 0
+
+abbrev pub decreases-param : goal.decreases-param
+decreases-param l = 8 * l.depth + 2
+
+abbrev pub decreases-params : goal.decreases-params
+decreases-params l = 8 * l.depth + 3
+
+abbrev pub decreases-parse : goal.decreases-parse
+decreases-parse l = 8 * l.depth + 0
+
+abbrev pub decreases-pform : goal.decreases-pform
+decreases-pform l = 8 * l.depth + 2
+
+abbrev pub decreases-pguard : goal.decreases-pguard
+decreases-pguard l = 8 * l.depth + 1
+
+abbrev pub decreases-pname : goal.decreases-pname
+decreases-pname l = 8 * l.depth + 1
+
+abbrev pub decreases-point : goal.decreases-point
+decreases-point l = 8 * l.depth + 2
+
+abbrev pub decreases-ptmpl : goal.decreases-ptmpl
+decreases-ptmpl l = 8 * l.depth + 1
+
+abbrev pub decreases-rett : goal.decreases-rett
+decreases-rett l = 8 * l.depth + 3
+
+abbrev pub decreases-scope : goal.decreases-scope
+decreases-scope l = 8 * l.depth + 3
+
+abbrev pub decreases-sname : goal.decreases-sname
+decreases-sname l = 8 * l.depth + 2
+
+abbrev pub decreases-special : goal.decreases-special
+decreases-special l = 8 * l.depth + 2
+
+abbrev pub decreases-strt : goal.decreases-strt
+decreases-strt l = 8 * l.depth + 2
+
+abbrev pub decreases-sym : goal.decreases-sym
+decreases-sym l = 8 * l.depth + 0
+
+abbrev pub decreases-tail : goal.decreases-tail
+decreases-tail l = 8 * l.depth + 5
+
+abbrev pub decreases-tmpl : goal.decreases-tmpl
+decreases-tmpl l = 8 * l.depth + 4
+
+abbrev pub decreases-tofn : goal.decreases-tofn
+decreases-tofn l = 8 * l.depth + 0
+
+abbrev pub decreases-ty : goal.decreases-ty
+decreases-ty l = 8 * l.depth + 0
+
+abbrev pub decreases-unq : goal.decreases-unq
+decreases-unq l = 8 * l.depth + 0
+
+abbrev pub decreases-unqn : goal.decreases-unqn
+decreases-unqn l = 8 * l.depth + 1
+
+abbrev pub decreases-var : goal.decreases-var
+decreases-var l = 8 * l.depth + 2
+
+abbrev pub decreases-vtype : goal.decreases-vtype
+decreases-vtype l = 8 * l.depth + 1
+
+abbrev pub invariant-params-loop-left : goal.invariant-params-loop-left
+invariant-params-loop-left l = (length l.t ≡ length l.initial.t) × ((g : Got) (t' : Lent) → Does l.s l.lim.depth l.lim.room l.depth (params_from l.left l.last) l.st (lent l.t l.names l.types) plain g t' → Does l.s l.lim.depth l.lim.room l.depth params l.initial.st (lent l.initial.t l.initial.names l.initial.types) plain g t')
+
+abbrev pub decreases-params-loop-left : goal.decreases-params-loop-left
+decreases-params-loop-left l = l.left
+
+abbrev pub invariant-scope-loop-left : goal.invariant-scope-loop-left
+invariant-scope-loop-left l = (length l.t ≡ length l.initial.t) × ((g : Got) (t' : Lent) → Does l.s l.lim.depth l.lim.room l.depth (scope_from l.left l.last) l.st (lent l.t l.names l.types) plain g t' → Does l.s l.lim.depth l.lim.room l.depth scope l.initial.st (lent l.initial.t l.initial.names l.initial.types) plain g t')
+
+abbrev pub decreases-scope-loop-left : goal.decreases-scope-loop-left
+decreases-scope-loop-left l = l.left
