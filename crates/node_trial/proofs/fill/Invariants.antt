@@ -1,0 +1,10 @@
+use Prim.Native.Nat.{◌≤◌, ◌-◌}
+use mathlib.Core.Path.{◌≡◌}
+use lib.ListN.{length}
+use Rattle.node_trial.proofs.fill.Given as goal
+
+abbrev pub invariant-loop-n : goal.invariant-loop-n
+invariant-loop-n l = (l.n ≤ 69) × (length l.table ≡ length l.initial.table)
+
+abbrev pub decreases-loop-n : goal.decreases-loop-n
+decreases-loop-n l = 69 - l.n
