@@ -3,23 +3,23 @@
 // of the 256, the answer of byte 0 and then each byte whose answer differs from it.
 #![tactic(auto)]
 
-ghost use Rattle.std.specs.Prelude.{◌≤◌, length};
+ghost use Rattle.std.specs.Prelude.{◌≤◌, length, IfOk};
 
 use leaf_call::call_leaf;
 use leaf_call::reply::Reply;
-use libc::{STDIN_FILENO, STDOUT_FILENO};
+use std::io;
+use std::io::{Read, Stdin, Stdout, Write};
 
-fn put_number(n: usize) {
-    io::write_all(STDOUT_FILENO, b"\t");
-    io::print_decimal(STDOUT_FILENO, n as u64);
+fn put_number(out: &mut Stdout, n: usize) -> io::Result<()> {
+    write!(out, "\t{n}")
 }
 
-fn put_reply(r: Reply) {
-    put_number(r.number as usize);
-    put_number(r.taken);
-    put_number(r.value);
-    put_number(r.start);
-    io::write_all(STDOUT_FILENO, b"\n");
+fn put_reply(out: &mut Stdout, r: Reply) -> io::Result<()> {
+    put_number(out, r.number as usize)?;
+    put_number(out, r.taken)?;
+    put_number(out, r.value)?;
+    put_number(out, r.start)?;
+    out.write_all(b"\n")
 }
 
 fn same_reply(a: Reply, b: Reply) -> bool {
@@ -46,43 +46,43 @@ fn digit_value(c: u8) -> u32
 }
 
 // Each byte in the last place of what is read.
-fn run_letters(leaf: u32, bytes: &mut [u8]) {
+fn run_letters(out: &mut Stdout, leaf: u32, bytes: &mut [u8]) -> io::Result<()> {
     if bytes.len() == 0 {
-        return;
+        return Ok(());
     }
     let last = bytes.len() - 1;
     bytes[last] = 0;
     let other = call_leaf(leaf, bytes, 0);
-    io::write_all(STDOUT_FILENO, b"other");
-    put_reply(other);
+    out.write_all(b"other")?;
+    put_reply(out, other)?;
     for c in 1..=255u8 {
         bytes[last] = c;
         let r = call_leaf(leaf, bytes, 0);
         if !same_reply(r, other) {
-            put_number(c as usize);
-            put_reply(r);
+            put_number(out, c as usize)?;
+            put_reply(out, r)?;
         }
     }
+    Ok(())
 }
 
 // The star is moved behind the bytes, where each byte is tried.
-fn run_line(line: &mut [u8]) {
+fn run_line(out: &mut Stdout, line: &mut [u8]) -> io::Result<()> {
     if line.len() < 3 {
-        return;
+        return Ok(());
     }
     let leaf = digit_value(line[0]) * 10 + digit_value(line[1]);
-    io::write_all(STDOUT_FILENO, line);
+    out.write_all(line)?;
     if line[2] != b'*' {
-        put_reply(call_leaf(leaf, line, 3));
-        return;
+        return put_reply(out, call_leaf(leaf, line, 3));
     }
-    io::write_all(STDOUT_FILENO, b"\n");
+    out.write_all(b"\n")?;
     let mut i = 3;
     while i < line.len() {
         line[i - 1] = line[i];
         i += 1;
     }
-    run_letters(leaf, &mut line[2..]);
+    run_letters(out, leaf, &mut line[2..])
 }
 
 // Where the line that starts here ends.
@@ -101,17 +101,33 @@ fn line_end(text: &[u8], from: usize) -> usize
     i
 }
 
-fn run_lines(text: &mut [u8]) {
+fn run_lines(out: &mut Stdout, text: &mut [u8]) -> io::Result<()> {
     let mut from = 0;
     while from < text.len() {
         let end = line_end(text, from);
-        run_line(&mut text[from..end]);
+        run_line(out, &mut text[from..end])?;
         from = end + 1;
     }
+    Ok(())
 }
 
-fn main() {
-    let mut input = io::buffer();
-    let n = io::read_full(STDIN_FILENO, &mut input);
-    run_lines(&mut input[..n]);
+// Reads until the buffer is full or the input ends; how many bytes came.
+fn read_full(input: &mut Stdin, buffer: &mut [u8]) -> io::Result<usize>
+    ensures { IfOk result (λ n. n ≤ length buffer.new) }
+{
+    let mut done = 0;
+    while done < buffer.len() {
+        let n = input.read(&mut buffer[done..])?;
+        if n == 0 {
+            break;
+        }
+        done += n;
+    }
+    Ok(done)
+}
+
+fn main(rt: HostRuntime) -> io::Result<()> {
+    let mut text = [0u8; 4096];
+    let n = read_full(&mut rt.stdin(), &mut text)?;
+    run_lines(&mut rt.stdout(), &mut text[..n])
 }

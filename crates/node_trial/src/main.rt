@@ -4,8 +4,9 @@
 
 ghost use Rattle.std.specs.Prelude.{◌<◌};
 
-use libc::STDOUT_FILENO;
 use node::{Node, kinds};
+use std::io;
+use std::io::{Stdout, Write};
 
 const COUNT: usize = 69;
 
@@ -120,48 +121,50 @@ fn damage(k: u32, old: u32) -> u32 {
     }
 }
 
-fn put_verdict(table: &[u32]) {
+fn put_verdict(out: &mut Stdout, table: &[u32]) -> io::Result<()> {
     if form::is_well_formed(table, 3) {
-        io::write_all(STDOUT_FILENO, b"1");
+        out.write_all(b"1")
     } else {
-        io::write_all(STDOUT_FILENO, b"0");
+        out.write_all(b"0")
     }
 }
 
 // Each damage of one cell, which is whole again afterwards.
-fn try_cell(table: &mut [u32], i: usize) {
+fn try_cell(out: &mut Stdout, table: &mut [u32], i: usize) -> io::Result<()> {
     if table.len() <= i {
-        return;
+        return Ok(());
     }
     let old = table[i];
-    io::write_all(STDOUT_FILENO, b" ");
+    out.write_all(b" ")?;
     for k in 0..6u32 {
         table[i] = damage(k, old);
-        put_verdict(table);
+        put_verdict(out, table)?;
     }
     table[i] = old;
+    Ok(())
 }
 
-fn try_node(table: &mut [u32], n: usize)
+fn try_node(out: &mut Stdout, table: &mut [u32], n: usize) -> io::Result<()>
     requires { n < 69 }
 {
-    io::print_decimal(STDOUT_FILENO, n as u64);
-    io::write_all(STDOUT_FILENO, b" kind ");
-    io::print_decimal(STDOUT_FILENO, node::kind(table, n) as u64);
+    let kind = node::kind(table, n);
+    write!(out, "{n} kind {kind}")?;
     for j in 0..node::CELLS {
-        try_cell(table, n * node::CELLS + j);
+        try_cell(out, table, n * node::CELLS + j)?;
     }
-    io::write_all(STDOUT_FILENO, b"\n");
+    out.write_all(b"\n")
 }
 
-fn main() {
+fn main(rt: HostRuntime) -> io::Result<()> {
+    let mut out = rt.stdout();
     let mut table = [0u32; 833];
     fill(&mut table);
-    put_verdict(&table);
-    io::write_all(STDOUT_FILENO, b"\n");
+    put_verdict(&mut out, &table)?;
+    out.write_all(b"\n")?;
     let mut n = 0;
     while n < COUNT {
-        try_node(&mut table, n);
+        try_node(&mut out, &mut table, n)?;
         n += 1;
     }
+    Ok(())
 }

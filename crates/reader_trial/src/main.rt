@@ -2,11 +2,12 @@
 // Prints the line, and the reading's number and offset.
 #![tactic(auto)]
 
-ghost use Rattle.std.specs.Prelude.{◌≤◌, length};
+ghost use Rattle.std.specs.Prelude.{◌≤◌, length, IfOk};
 
 use grammar::Refusal;
-use libc::{STDIN_FILENO, STDOUT_FILENO};
 use reader::Whole;
+use std::io;
+use std::io::{Read, Stdin, Stdout, Write};
 
 const CELLS: usize = 120_000;
 
@@ -32,9 +33,9 @@ fn digit_value(c: u8) -> usize
     }
 }
 
-fn run_line(line: &[u8], table: &mut [u32]) {
+fn run_line(out: &mut Stdout, line: &[u8], table: &mut [u32]) -> io::Result<()> {
     if line.len() < 8 {
-        return;
+        return Ok(());
     }
     let depth = digit_value(line[0]) * 100 + digit_value(line[1]) * 10 + digit_value(line[2]);
     let nodes = digit_value(line[3]) * 1000
@@ -43,18 +44,14 @@ fn run_line(line: &[u8], table: &mut [u32]) {
         + digit_value(line[6]);
     let cells = nodes * 12;
     if table.len() < cells {
-        return;
+        return Ok(());
     }
     let end = line.len();
     let r = reader::read(&line[8..end], &mut table[..cells], depth as u16);
-    let a = r.answer;
-    let st = r.state;
-    io::write_all(STDOUT_FILENO, line);
-    io::write_all(STDOUT_FILENO, b"\t");
-    io::print_decimal(STDOUT_FILENO, number_of(a));
-    io::write_all(STDOUT_FILENO, b"\t");
-    io::print_decimal(STDOUT_FILENO, st.at as u64);
-    io::write_all(STDOUT_FILENO, b"\n");
+    let number = number_of(r.answer);
+    let at = r.state.at;
+    out.write_all(line)?;
+    write!(out, "\t{number}\t{at}\n")
 }
 
 // Where the line that starts here ends.
@@ -73,18 +70,34 @@ fn line_end(text: &[u8], from: usize) -> usize
     i
 }
 
-fn run_lines(text: &[u8], table: &mut [u32]) {
+fn run_lines(out: &mut Stdout, text: &[u8], table: &mut [u32]) -> io::Result<()> {
     let mut from = 0;
     while from < text.len() {
         let end = line_end(text, from);
-        run_line(&text[from..end], table);
+        run_line(out, &text[from..end], table)?;
         from = end + 1;
     }
+    Ok(())
 }
 
-fn main() {
+// Reads until the buffer is full or the input ends; how many bytes came.
+fn read_full(input: &mut Stdin, buffer: &mut [u8]) -> io::Result<usize>
+    ensures { IfOk result (λ n. n ≤ length buffer.new) }
+{
+    let mut done = 0;
+    while done < buffer.len() {
+        let n = input.read(&mut buffer[done..])?;
+        if n == 0 {
+            break;
+        }
+        done += n;
+    }
+    Ok(done)
+}
+
+fn main(rt: HostRuntime) -> io::Result<()> {
     let mut table = [0u32; CELLS];
-    let mut input = io::large_buffer();
-    let n = io::read_full(STDIN_FILENO, &mut input);
-    run_lines(&input[..n], &mut table[..]);
+    let mut text = [0u8; 65_536];
+    let n = read_full(&mut rt.stdin(), &mut text)?;
+    run_lines(&mut rt.stdout(), &text[..n], &mut table[..])
 }

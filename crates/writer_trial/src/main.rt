@@ -2,12 +2,13 @@
 // Prints the line, the number (0, 6, or the reader's), and what the call left in the text: up to three bytes after a text that fitted.
 #![tactic(auto)]
 
-ghost use Rattle.std.specs.Prelude.{◌≤◌, ◌+◌, length};
+ghost use Rattle.std.specs.Prelude.{◌≤◌, ◌+◌, length, IfOk};
 
 use grammar::Refusal;
-use libc::{STDIN_FILENO, STDOUT_FILENO};
 use reader::Whole;
 use scan::limits::DEEPEST_READING;
+use std::io;
+use std::io::{Read, Stdin, Stdout, Write};
 use writer::Written;
 
 const CELLS: usize = 120_000;
@@ -66,11 +67,18 @@ fn number_of(w: Written) -> u64 {
     }
 }
 
-fn run_text(symbol: &[u8], table: &[u32], text: &mut [u8], root: u16, flags: u32) {
+fn run_text(
+    out: &mut Stdout,
+    symbol: &[u8],
+    table: &[u32],
+    text: &mut [u8],
+    root: u16,
+    flags: u32,
+) -> io::Result<()> {
     let w = writer::write(table, symbol, text, root as usize + 1, flags);
-    io::print_decimal(STDOUT_FILENO, number_of(w));
-    io::write_all(STDOUT_FILENO, b"\t");
-    io::write_all(STDOUT_FILENO, &text[..shown(text.len(), w)]);
+    let number = number_of(w);
+    write!(out, "{number}\t")?;
+    out.write_all(&text[..shown(text.len(), w)])
 }
 
 fn refusal_number(why: Refusal) -> u64 {
@@ -81,35 +89,40 @@ fn refusal_number(why: Refusal) -> u64 {
     }
 }
 
-fn run_symbol(symbol: &[u8], table: &mut [u32], text: &mut [u8], flags: u32) {
+fn run_symbol(
+    out: &mut Stdout,
+    symbol: &[u8],
+    table: &mut [u32],
+    text: &mut [u8],
+    flags: u32,
+) -> io::Result<()> {
     let r = reader::read(symbol, table, DEEPEST_READING);
     let a = r.answer;
     match a {
-        Whole::Outside => {
-            io::print_decimal(STDOUT_FILENO, 1);
-        }
-        Whole::Root(n) => run_text(symbol, table, text, n, flags),
+        Whole::Outside => out.write_all(b"1"),
+        Whole::Root(n) => run_text(out, symbol, table, text, n, flags),
         Whole::Refused(why) => {
-            io::print_decimal(STDOUT_FILENO, refusal_number(why));
+            let number = refusal_number(why);
+            write!(out, "{number}")
         }
     }
 }
 
-fn run_line(line: &[u8], table: &mut [u32], text: &mut [u8]) {
+fn run_line(out: &mut Stdout, line: &[u8], table: &mut [u32], text: &mut [u8]) -> io::Result<()> {
     if line.len() < 13 {
-        return;
+        return Ok(());
     }
     let flags = four_digits(line, 0) * 10000 + four_digits(line, 4);
     let room = four_digits(line, 8);
     if text.len() < room {
-        return;
+        return Ok(());
     }
     clear(text);
-    io::write_all(STDOUT_FILENO, line);
-    io::write_all(STDOUT_FILENO, b"\t");
+    out.write_all(line)?;
+    out.write_all(b"\t")?;
     let end = line.len();
-    run_symbol(&line[13..end], table, &mut text[..room], flags as u32);
-    io::write_all(STDOUT_FILENO, b"\n");
+    run_symbol(out, &line[13..end], table, &mut text[..room], flags as u32)?;
+    out.write_all(b"\n")
 }
 
 // Where the line that starts here ends.
@@ -128,19 +141,35 @@ fn line_end(text: &[u8], from: usize) -> usize
     i
 }
 
-fn run_lines(lines: &[u8], table: &mut [u32], text: &mut [u8]) {
+fn run_lines(out: &mut Stdout, lines: &[u8], table: &mut [u32], text: &mut [u8]) -> io::Result<()> {
     let mut from = 0;
     while from < lines.len() {
         let end = line_end(lines, from);
-        run_line(&lines[from..end], table, text);
+        run_line(out, &lines[from..end], table, text)?;
         from = end + 1;
     }
+    Ok(())
 }
 
-fn main() {
+// Reads until the buffer is full or the input ends; how many bytes came.
+fn read_full(input: &mut Stdin, buffer: &mut [u8]) -> io::Result<usize>
+    ensures { IfOk result (λ n. n ≤ length buffer.new) }
+{
+    let mut done = 0;
+    while done < buffer.len() {
+        let n = input.read(&mut buffer[done..])?;
+        if n == 0 {
+            break;
+        }
+        done += n;
+    }
+    Ok(done)
+}
+
+fn main(rt: HostRuntime) -> io::Result<()> {
     let mut table = [0u32; CELLS];
     let mut text = [0u8; BYTES];
-    let mut input = io::large_buffer();
-    let n = io::read_full(STDIN_FILENO, &mut input);
-    run_lines(&input[..n], &mut table[..], &mut text[..]);
+    let mut lines = [0u8; 65_536];
+    let n = read_full(&mut rt.stdin(), &mut lines)?;
+    run_lines(&mut rt.stdout(), &lines[..n], &mut table[..], &mut text[..])
 }
