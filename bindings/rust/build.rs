@@ -1,5 +1,5 @@
-//! Links libfarthingmoss.a (x86-64), which `rt staticlib farthingmoss` builds at the top of the
-//! repository. It is looked for in the folder FARTHINGMOSS_LIB_DIR, else in target/staticlib there.
+//! Links libfarthingmoss.a (x86-64), which `compare/archive.sh farthingmoss` at the top of the
+//! repository builds. It is looked for in the folder FARTHINGMOSS_LIB_DIR, else in target/staticlib there.
 use std::env;
 use std::path::PathBuf;
 

@@ -1,4 +1,5 @@
-// The calls for programs in C and Rust. A report is number, offset, depth, nodes and text length.
+// The calls as programs in C and Rust have them: the crate farthingmoss_c exports each under its name here.
+// A report is number, offset, depth, nodes and text length.
 ghost use Rattle.std.specs.Prelude.{◌≡◌, length};
 ghost use Rattle.farthingmoss.specs.Call.{filled, reported, is_answered, demangled, table_after, text_after, written_alone, text_alone, name_report};
 
@@ -63,15 +64,13 @@ fn is_answered(a: Answer) -> bool
 }
 
 // How many cells a node takes.
-#[unsafe(no_mangle)]
-pub extern "C" fn farthingmoss_node_cells() -> usize
+pub fn farthingmoss_node_cells() -> usize
     ensures { result ≡ 12 }
 {
     node::CELLS
 }
 
-#[unsafe(no_mangle)]
-pub extern "C" fn farthingmoss_read(
+pub fn farthingmoss_read(
     symbol: &[u8],
     flags: u32,
     depth: u32,
@@ -87,8 +86,7 @@ pub extern "C" fn farthingmoss_read(
     tell(report, a);
 }
 
-#[unsafe(no_mangle)]
-pub extern "C" fn farthingmoss_write(
+pub fn farthingmoss_write(
     symbol: &[u8],
     flags: u32,
     depth: u32,
@@ -105,8 +103,7 @@ pub extern "C" fn farthingmoss_write(
 }
 
 // Where a plain name starts in the symbol, and how long it is, stand in the last two places.
-#[unsafe(no_mangle)]
-pub extern "C" fn farthingmoss_name(symbol: &[u8], table: &[u32], n: u64, report: &mut [u64; 5])
+pub fn farthingmoss_name(symbol: &[u8], table: &[u32], n: u64, report: &mut [u64; 5])
     ensures table_value { table.now ≡ table.now }
     ensures report_after { report.new ≡ name_report symbol.now table.now n report.old }
 {

@@ -7,7 +7,8 @@ ghost use Rattle.leaf_export.specs.Written.{written};
 
 use leaf_call::call_leaf;
 
-// The leaf of this number, read at a place of the symbol: number, bytes taken, value and start go into the first four places of `out`.
+// The leaf of this number, read at a place of the symbol: number, bytes taken, value and start go into the first four
+// places of `out`.
 #[unsafe(no_mangle)]
 pub extern "C" fn farthingmoss_leaf(leaf: u32, s: &[u8], at: usize, out: &mut [u64])
     ensures { out.new ≡ written (leaf_reply leaf (drop at s.now)) out.old }
