@@ -1,7 +1,7 @@
 // The readers of the crate's parser, over a lent symbol and a lent node table. Each does what the production of its name
 // says: types, names and parameter lists call each other in a cycle, the remaining depth falling where a part opens.
 //
-// The checker joins the names of a cycle's functions in one file name, of 255 bytes at most; so they are short:
+// Each calls others, with all that they share; so their names are short:
 //   ty, vtype          read_var_type, and as it is called: a stored type opens no part
 //   named, point, tofn a type above a name, above a pointee, above a function
 //   func, mptr, tail   read_func_type, read_member_function_pointer, and how both end

@@ -1,4 +1,4 @@
--- The readers call each other: each does what its production says. A file for each member stands below this one.
+-- The readers call each other: each does what its production says.
 -- Assumes nothing.
 use Prim.Native.Nat.{◌-◌}
 use borrow.Author.Tests.{ne_eqb, le-leb, lt-leb}

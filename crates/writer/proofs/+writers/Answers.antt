@@ -1,4 +1,4 @@
--- The writers call each other: each writes what the Serializer's function of its tree says. A file for each member stands below this one.
+-- The writers call each other: each writes what the Serializer's function of its tree says.
 -- Assumes nothing.
 use Prim.Native.Nat.{◌/◌}
 use mathlib.Core.Path.{◌∙◌, refl, sym, ap, ap₂}

@@ -1,4 +1,4 @@
--- The functions of this cycle of calls meet their contracts. A file for each stands below this one.
+-- The functions of this cycle of calls meet their contracts.
 -- Assumes nothing.
 use Prim.Native.Nat.{ℕ, ◌+◌}
 use mathlib.Core.Path.{sym, refl, ◌∙◌}
