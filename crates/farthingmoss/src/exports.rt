@@ -94,7 +94,7 @@ pub fn farthingmoss_write(
     text: &mut [u8],
     report: &mut [u64; 5],
 )
-    ensures table_value { table.now ≡ table.now }
+    ensures table_value { table.exit.now ≡ table.entry.now }
     ensures text_after { text.new ≡ text_alone flags depth symbol.now table.now text.old }
     ensures report_after { report.new ≡ reported (written_alone flags depth symbol.now table.now (length text.old)) report.old }
 {
@@ -104,7 +104,7 @@ pub fn farthingmoss_write(
 
 // Where a plain name starts in the symbol, and how long it is, stand in the last two places.
 pub fn farthingmoss_name(symbol: &[u8], table: &[u32], n: u64, report: &mut [u64; 5])
-    ensures table_value { table.now ≡ table.now }
+    ensures table_value { table.exit.now ≡ table.entry.now }
     ensures report_after { report.new ≡ name_report symbol.now table.now n report.old }
 {
     let a = name_question(symbol, table, n);

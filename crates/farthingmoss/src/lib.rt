@@ -134,7 +134,7 @@ fn write_root(symbol: &[u8], flags: u32, depth: u32, table: &[u32], text: &mut [
 // Writes the text of a table that a reading left.
 pub fn write_table(symbol: &[u8], flags: u32, depth: u32, table: &[u32], text: &mut [u8]) -> Answer
     ensures value { result ≡ written_alone flags depth symbol.now table.now (length text.old) }
-    ensures table_value { table.now ≡ table.now }
+    ensures table_value { table.exit.now ≡ table.entry.now }
     ensures text_after { text.new ≡ text_alone flags depth symbol.now table.now text.old }
 {
     let g = call_gate(flags, depth, symbol);
@@ -163,7 +163,7 @@ fn is_name(table: &[u32], len: usize, n: u64) -> bool
 // Whether node n is a plain name: the number and the offset of the answer.
 pub fn name_question(symbol: &[u8], table: &[u32], n: u64) -> Answer
     ensures value { result ≡ name_answer symbol.now table.now n }
-    ensures table_value { table.now ≡ table.now }
+    ensures table_value { table.exit.now ≡ table.entry.now }
 {
     let g = symbol_gate(symbol);
     match g {
@@ -187,7 +187,7 @@ pub fn name_question(symbol: &[u8], table: &[u32], n: u64) -> Answer
 // That part of the symbol which is node n's name; its empty beginning where the question is refused.
 pub fn name_part<'a>(symbol: &'a [u8], table: &[u32], n: u64) -> &'a [u8]
     ensures result_value { result.now ≡ name_of symbol.now table.now n }
-    ensures table_value { table.now ≡ table.now }
+    ensures table_value { table.exit.now ≡ table.entry.now }
 {
     let g = symbol_gate(symbol);
     match g {

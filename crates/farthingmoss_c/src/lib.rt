@@ -39,7 +39,7 @@ pub extern "C" fn farthingmoss_write(
     text: &mut [u8],
     report: &mut [u64; 5],
 )
-    ensures table_value { table.now ≡ table.now }
+    ensures table_value { table.exit.now ≡ table.entry.now }
     ensures text_after { text.new ≡ text_alone flags depth symbol.now table.now text.old }
     ensures report_after { report.new ≡ reported (written_alone flags depth symbol.now table.now (length text.old)) report.old }
 {
@@ -49,7 +49,7 @@ pub extern "C" fn farthingmoss_write(
 // Where a plain name starts in the symbol, and how long it is, stand in the last two places.
 #[unsafe(no_mangle)]
 pub extern "C" fn farthingmoss_name(symbol: &[u8], table: &[u32], n: u64, report: &mut [u64; 5])
-    ensures table_value { table.now ≡ table.now }
+    ensures table_value { table.exit.now ≡ table.entry.now }
     ensures report_after { report.new ≡ name_report symbol.now table.now n report.old }
 {
     exports::farthingmoss_name(symbol, table, n, report);

@@ -18,19 +18,19 @@ pub fn reads(symbol: &[u8], flags: u32, depth: u32, table: &mut [u32], text: &mu
 }
 
 pub fn writes(symbol: &[u8], flags: u32, depth: u32, table: &[u32], text: &mut [u8]) -> Answer
-    ensures { Writes flags depth symbol.now table.now text.old result table.now text.new }
+    ensures { Writes flags depth symbol.now table.entry.now text.old result table.exit.now text.new }
 {
     farthingmoss::write_table(symbol, flags, depth, table, text)
 }
 
 pub fn asks(symbol: &[u8], table: &[u32], n: u64) -> Answer
-    ensures { Names symbol.now table.now n result table.now }
+    ensures { Names symbol.now table.entry.now n result table.exit.now }
 {
     farthingmoss::name_question(symbol, table, n)
 }
 
 pub fn parts<'a>(symbol: &'a [u8], table: &[u32], n: u64) -> &'a [u8]
-    ensures { Parts symbol.now table.now n result.now table.now }
+    ensures { Parts symbol.now table.entry.now n result.now table.exit.now }
 {
     farthingmoss::name_part(symbol, table, n)
 }
