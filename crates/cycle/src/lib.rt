@@ -17,9 +17,8 @@
 //   otmpl, oname       the symbol of `?$`, and its name; oguard is the symbol of `?$TSS`
 //   sym, var           the symbol's own type, a variable
 //
-// They take the symbol `s`; what is lent, the node table `t` and the two halves of the memo; the spot `st`; the limits of
-// the reading `lim`, and beside them `depth`, how many more parts may open: of all limits it alone falls. In the layout
-// a call takes ten lines, so that a reader which calls three others has over forty.
+// They take the reader `r`, that is the symbol and the budgets of the reading; what is lent, the node table `t`; the state
+// `st`; and `depth`, how many more parts may open: of all limits it alone falls.
 #![tactic(auto)]
 
 ghost use Rattle.std.specs.Prelude.{◌≡◌, ◌-◌, ◌+◌, length};
@@ -28,1106 +27,605 @@ ghost use Rattle.forms.specs.declared.begins.ParseForm.TheVariants.{Guard, Templ
 ghost use Rattle.grammar.specs.Words.{digit, ordered};
 ghost use Rattle.grammar.specs.Grammar as tags;
 ghost use Rattle.grammar.specs.Grammar.{VarType, Unqualified, Nested, Parse, OuterTemplate, OuterName, OuterGuard, SymbolType, var_type, func_type, member_function_pointer, array, dimensions, element, func_return_type, func_params, params, stored_param, new_param, scope, template_name, unqualified_name, special_name, nested_name, parse_of};
-ghost use Rattle.steps.specs.Does.{plain, guarded, sized, lent, Does, Reads};
-ghost use Rattle.shapes.specs.Shapes.{shape_type, shape_symbol, headed, returned};
+ghost use Rattle.steps.specs.Does.{Does, Reads};
+ghost use Rattle.shapes.specs.Shapes.{shape_type, shape_symbol, tail_of, returned};
 ghost use Rattle.shapes.specs.declared.types.Shape.TheVariants.{Named, Pointing, ToFunction};
 ghost use Rattle.shapes.specs.declared.symbols.SymbolShape.TheVariants.{Variable};
 ghost use Rattle.ends.specs.Ends.{scope_name};
-ghost use Rattle.scan.specs.Limits.{Short};
 
 use ends::{
-    array_end, ended, guard_of, leaf_name, list_end, list_stops, literal_part, memorized, no_type,
-    param_end, parse_md5, parsed, shut_base, stored_unless, table_end, template_end,
+    is_guard, leaf_name, list_end, list_stops, literal_part, no_type, param_end, parse_md5, parsed,
 };
 use forms::begins::ParseForm;
-use grammar::{Entries, Refusal};
-use node::kinds;
-use shapes::heads::{Headed, function_head, pointer_head, symbol_head};
+use grammar::{Refusal, State};
+use node::{Node, kinds};
+use shapes::heads::{Signature, function_head, pointer_head, symbol_head};
 use shapes::names::{
     NameShape, SpecialShape, UnqualifiedShape, name_shape, special_shape, unqualified_shape,
 };
 use shapes::symbols::{SymbolShape, guard_index, parse_form, symbol_shape};
 use shapes::types::{Shape, type_shape};
-use steps::close::{above, beside, made, over, placed, shut, shut_leaf};
-use steps::leaves::{
-    digit, element_class, expect, guard_number, number, pointee_class, reference, storage_class,
-};
-use steps::memo::{aside, emptied, name_of, type_of};
-use steps::state::{Answer, Got, Limits, Spot, Value, found, opened, refused};
+use steps::close::{BLANK, to};
+use steps::memo::{aside, name_of, put_back, type_of};
+use steps::reader::Reader;
 
 // One more than the bytes that are left: a list has no more entries.
-fn turns(s: &[u8], st: Spot) -> usize
-    requires { Short s.now }
-    ensures { result ≡ length s.now - st.at + 1 }
+fn turns(s: &[u8], at: u16) -> usize
+    ensures { result ≡ length s.now - at + 1 }
 {
-    let at = st.at as usize;
-    if at < s.len() { s.len() - at + 1 } else { 1 }
+    s.len().saturating_sub(at as usize) + 1
 }
 
 // read_var_type, as it is called: a stored type opens no part.
 #[cycle(readers)]
-fn vtype(
-    s: &[u8],
-    t: &mut [u32],
-    names: &mut Entries,
-    types: &mut Entries,
-    st: Spot,
-    lim: Limits,
-    depth: u16,
-    sc: u32,
-) -> Got
-    requires { Short s.now }
-    ensures { Does s.now lim.depth lim.room depth (var_type sc) st (lent t.old names.old types.old) plain result (lent t.new names.new types.new) }
+fn vtype(r: Reader, t: &mut [u32], st: &mut State, depth: u16, sc: u32) -> Result<u16, Refusal>
+    ensures { Does r.entry depth (var_type sc) st.old t.old result st.new t.new }
 {
-    let f = reference(s, st);
-    let v = f.value;
-    match v {
-        Value::Is(i) => type_of(types, f.state, i),
-        Value::Bad => ty(s, t, names, types, st, lim, depth, sc),
+    match r.reference(st) {
+        Some(i) => type_of(st, i),
+        None => ty(r, t, st, depth, sc),
     }
 }
 
 // read_var_type
 #[cycle(readers)]
-fn ty(
-    s: &[u8],
-    t: &mut [u32],
-    names: &mut Entries,
-    types: &mut Entries,
-    st: Spot,
-    lim: Limits,
-    depth: u16,
-    sc: u32,
-) -> Got
-    requires { Short s.now }
-    ensures { Reads s.now lim.depth lim.room depth (VarType sc) st (lent t.old names.old types.old) plain result (lent t.new names.new types.new) }
+fn ty(r: Reader, t: &mut [u32], st: &mut State, depth: u16, sc: u32) -> Result<u16, Refusal>
+    ensures { Reads r.entry depth (VarType sc) st.old t.old result st.new t.new }
 {
-    if depth == 0 {
-        return refused(Refusal::Deep, st);
-    }
-
-    let left = depth - 1;
-    let k = type_shape(s, opened(st, lim.depth, left), sc);
-    let next = k.state;
-    let f = k.shape;
-    match f {
-        Shape::Named(kind, function, class) => named(
-            s, t, names, types, next, lim, left, kind, function, class,
-        ),
-        Shape::Pointing(kind, class) => point(s, t, names, types, next, lim, left, kind, class),
-        Shape::ToFunction(kind, class) => tofn(s, t, names, types, next, lim, left, kind, class),
-        Shape::Member(qualifiers) => mptr(s, t, names, types, next, lim, left, qualifiers),
-        Shape::Function(qualifiers) => func(s, t, names, types, next, lim, left, qualifiers),
-        Shape::Array => array(s, t, names, types, next, lim, left),
-        Shape::Leaf(kind, p) => shut_leaf(t, next, lim, kind, p, 0),
-        Shape::Refused => refused(Refusal::Syntax, next),
+    let left = r.open(st, depth)?;
+    match type_shape(r, st, sc)? {
+        Shape::Named(kind, function, class) => named(r, t, st, left, kind, function, class),
+        Shape::Pointing(kind, class) => point(r, t, st, left, kind, class),
+        Shape::ToFunction(kind, class) => tofn(r, t, st, left, kind, class),
+        Shape::Member(qualifiers) => mptr(r, t, st, left, qualifiers),
+        Shape::Function(qualifiers) => func(r, t, st, left, qualifiers),
+        Shape::Array => array(r, t, st, left),
+        Shape::Leaf(kind, p) => r.shut_leaf(t, st, kind, p, 0),
     }
 }
 
 // A type above a name.
 #[cycle(readers)]
 fn named(
-    s: &[u8],
+    r: Reader,
     t: &mut [u32],
-    names: &mut Entries,
-    types: &mut Entries,
-    st: Spot,
-    lim: Limits,
+    st: &mut State,
     depth: u16,
     kind: u32,
     function: bool,
     class: u32,
-) -> Got
-    requires { Short s.now }
-    ensures { Does s.now lim.depth lim.room depth (shape_type (Named kind function class)) st (lent t.old names.old types.old) plain result (lent t.new names.new types.new) }
+) -> Result<u16, Refusal>
+    ensures { Does r.entry depth (shape_type (Named kind function class)) st.old t.old result st.new t.new }
 {
-    let g = name(s, t, names, types, st, lim, depth, function);
-    above(t, g, lim, kind, class, 0)
+    let (n, _) = name(r, t, st, depth, function)?;
+    r.above(t, st, n, kind, class, 0)
 }
 
 // A type above a pointee.
 #[cycle(readers)]
 fn point(
-    s: &[u8],
+    r: Reader,
     t: &mut [u32],
-    names: &mut Entries,
-    types: &mut Entries,
-    st: Spot,
-    lim: Limits,
+    st: &mut State,
     depth: u16,
     kind: u32,
     class: u32,
-) -> Got
-    requires { Short s.now }
-    ensures { Does s.now lim.depth lim.room depth (shape_type (Pointing kind class)) st (lent t.old names.old types.old) plain result (lent t.new names.new types.new) }
+) -> Result<u16, Refusal>
+    ensures { Does r.entry depth (shape_type (Pointing kind class)) st.old t.old result st.new t.new }
 {
-    let c = pointee_class(s, st);
-    let g = vtype(s, t, names, types, c.state, lim, depth, c.bits);
-    above(t, g, lim, kind, class, 0)
+    let sc = r.pointee_class(st);
+    let n = vtype(r, t, st, depth, sc)?;
+    r.above(t, st, n, kind, class, 0)
 }
 
 // A type above a function, which is a part of its own.
 #[cycle(readers)]
 fn tofn(
-    s: &[u8],
+    r: Reader,
     t: &mut [u32],
-    names: &mut Entries,
-    types: &mut Entries,
-    st: Spot,
-    lim: Limits,
+    st: &mut State,
     depth: u16,
     kind: u32,
     class: u32,
-) -> Got
-    requires { Short s.now }
-    ensures { Does s.now lim.depth lim.room depth (shape_type (ToFunction kind class)) st (lent t.old names.old types.old) plain result (lent t.new names.new types.new) }
+) -> Result<u16, Refusal>
+    ensures { Does r.entry depth (shape_type (ToFunction kind class)) st.old t.old result st.new t.new }
 {
-    if depth == 0 {
-        return refused(Refusal::Deep, st);
-    }
-
-    let left = depth - 1;
-    let g = func(
-        s,
-        t,
-        names,
-        types,
-        opened(st, lim.depth, left),
-        lim,
-        left,
-        false,
-    );
-    above(t, g, lim, kind, class, 0)
+    let left = r.open(st, depth)?;
+    let n = func(r, t, st, left, false)?;
+    r.above(t, st, n, kind, class, 0)
 }
 
 // read_func_type
 #[cycle(readers)]
 fn func(
-    s: &[u8],
+    r: Reader,
     t: &mut [u32],
-    names: &mut Entries,
-    types: &mut Entries,
-    st: Spot,
-    lim: Limits,
+    st: &mut State,
     depth: u16,
     qualifiers: bool,
-) -> Got
-    requires { Short s.now }
-    ensures { Does s.now lim.depth lim.room depth (func_type qualifiers) st (lent t.old names.old types.old) plain result (lent t.new names.new types.new) }
+) -> Result<u16, Refusal>
+    ensures { Does r.entry depth (func_type qualifiers) st.old t.old result st.new t.new }
 {
-    tail(
-        s,
-        t,
-        names,
-        types,
-        function_head(s, st, qualifiers),
-        lim,
-        depth,
-    )
+    let x = function_head(r, st, qualifiers)?;
+    tail(r, t, st, depth, x)
 }
 
 // read_member_function_pointer
 #[cycle(readers)]
 fn mptr(
-    s: &[u8],
+    r: Reader,
     t: &mut [u32],
-    names: &mut Entries,
-    types: &mut Entries,
-    st: Spot,
-    lim: Limits,
+    st: &mut State,
     depth: u16,
     qualifiers: bool,
-) -> Got
-    requires { Short s.now }
-    ensures { Does s.now lim.depth lim.room depth (member_function_pointer qualifiers) st (lent t.old names.old types.old) plain result (lent t.new names.new types.new) }
+) -> Result<u16, Refusal>
+    ensures { Does r.entry depth (member_function_pointer qualifiers) st.old t.old result st.new t.new }
 {
-    let g = name(s, t, names, types, st, lim, depth, true);
-    let a = g.answer;
-    match a {
-        Answer::Node(n) => tail(
-            s,
-            t,
-            names,
-            types,
-            pointer_head(s, g.state, n, qualifiers),
-            lim,
-            depth,
-        ),
-        Answer::Refused(_) => g,
-    }
+    let (n, _) = name(r, t, st, depth, true)?;
+    let x = pointer_head(r, st, n, qualifiers)?;
+    tail(r, t, st, depth, x)
 }
 
 // A function's return and its parameters, behind its head.
 #[cycle(readers)]
-fn tail(
-    s: &[u8],
-    t: &mut [u32],
-    names: &mut Entries,
-    types: &mut Entries,
-    h: Headed,
-    lim: Limits,
-    depth: u16,
-) -> Got
-    requires { Short s.now }
-    ensures { Does s.now lim.depth lim.room depth (headed h) h.state (lent t.old names.old types.old) plain result (lent t.new names.new types.new) }
+fn tail(r: Reader, t: &mut [u32], st: &mut State, depth: u16, x: Signature) -> Result<u16, Refusal>
+    ensures { Does r.entry depth (tail_of x) st.old t.old result st.new t.new }
 {
-    let st = h.state;
-    let x = h.signature;
-    if h.good {
-        let g = rett(
-            s,
-            t,
-            names,
-            types,
-            st,
-            lim,
-            depth,
-            x.return_class,
-            x.structor,
-        );
-        let a = g.answer;
-        return match a {
-            Answer::Node(n) => {
-                let l = fparams(s, t, names, types, g.state, lim, depth);
-                over(
-                    t,
-                    l,
-                    lim,
-                    made(
-                        x.kind,
-                        (n as u32) + 1,
-                        0,
-                        x.third,
-                        x.class,
-                        x.convention,
-                        x.func_class,
-                    ),
-                )
-            }
-            Answer::Refused(_) => g,
-        };
-    }
-    refused(Refusal::Syntax, st)
+    let n = rett(r, t, st, depth, x.return_class, x.structor)?;
+    let l = fparams(r, t, st, depth)?;
+    let function = Node {
+        kind: x.kind,
+        a: to(n),
+        b: u32::from(l),
+        c: x.third,
+        p: x.class,
+        q: x.convention,
+        r: x.func_class,
+        ..BLANK
+    };
+    r.shut(t, st, function)
 }
 
 // The return of a function: a structor's may be missing.
 #[cycle(readers)]
 fn rett(
-    s: &[u8],
+    r: Reader,
     t: &mut [u32],
-    names: &mut Entries,
-    types: &mut Entries,
-    st: Spot,
-    lim: Limits,
+    st: &mut State,
     depth: u16,
     sc: u32,
     structor: bool,
-) -> Got
-    requires { Short s.now }
-    ensures { Does s.now lim.depth lim.room depth (returned structor sc) st (lent t.old names.old types.old) plain result (lent t.new names.new types.new) }
+) -> Result<u16, Refusal>
+    ensures { Does r.entry depth (returned structor sc) st.old t.old result st.new t.new }
 {
     if structor {
-        return strt(s, t, names, types, st, lim, depth, sc);
+        return strt(r, t, st, depth, sc);
     }
-    vtype(s, t, names, types, st, lim, depth, sc)
+    vtype(r, t, st, depth, sc)
 }
 
 // read_func_return_type
 #[cycle(readers)]
-fn strt(
-    s: &[u8],
-    t: &mut [u32],
-    names: &mut Entries,
-    types: &mut Entries,
-    st: Spot,
-    lim: Limits,
-    depth: u16,
-    sc: u32,
-) -> Got
-    requires { Short s.now }
-    ensures { Does s.now lim.depth lim.room depth (func_return_type sc) st (lent t.old names.old types.old) plain result (lent t.new names.new types.new) }
+fn strt(r: Reader, t: &mut [u32], st: &mut State, depth: u16, sc: u32) -> Result<u16, Refusal>
+    ensures { Does r.entry depth (func_return_type sc) st.old t.old result st.new t.new }
 {
-    if scan::cursor::consume(b"@", s, st.at as usize) {
-        return literal_part(b"@", s, t, st, lim, depth, kinds::NONE, 0);
+    if scan::cursor::consume(b"@", r.s, st.at as usize) {
+        return literal_part(r, t, st, depth, b"@", kinds::NONE, 0);
     }
-    vtype(s, t, names, types, st, lim, depth, sc)
+    vtype(r, t, st, depth, sc)
 }
 
 // read_array
 #[cycle(readers)]
-fn array(
-    s: &[u8],
-    t: &mut [u32],
-    names: &mut Entries,
-    types: &mut Entries,
-    st: Spot,
-    lim: Limits,
-    depth: u16,
-) -> Got
-    requires { Short s.now }
-    ensures { Does s.now lim.depth lim.room depth array st (lent t.old names.old types.old) plain result (lent t.new names.new types.new) }
+fn array(r: Reader, t: &mut [u32], st: &mut State, depth: u16) -> Result<u16, Refusal>
+    ensures { Does r.entry depth array st.old t.old result st.new t.new }
 {
-    let k = number(s, st);
-    let v = k.value;
-    match v {
-        Value::Is(n) => {
-            if n == 0 {
-                return refused(Refusal::Syntax, k.state);
-            }
-            if 0x8000_0000 <= n {
-                return refused(Refusal::Syntax, k.state);
-            }
-            dims(s, t, names, types, k.state, lim, depth, n)
-        }
-        Value::Bad => refused(Refusal::Syntax, k.state),
+    let n = r.number(st)?;
+    if n == 0 || 0x8000_0000 <= n {
+        return Err(Refusal::Syntax);
     }
+    let (a, _) = dims(r, t, st, depth, n)?;
+    Ok(a)
 }
 
-// read_nested_array: a dimension, and one less inside it.
+// read_nested_array: a dimension, and one less inside it. Beside the node stands the class of the element.
 #[cycle(readers)]
 fn dims(
-    s: &[u8],
+    r: Reader,
     t: &mut [u32],
-    names: &mut Entries,
-    types: &mut Entries,
-    st: Spot,
-    lim: Limits,
+    st: &mut State,
     depth: u16,
     dimension: u32,
-) -> Got
-    requires { Short s.now }
-    ensures { Does s.now lim.depth lim.room depth (dimensions dimension) st (lent t.old names.old types.old) sized result (lent t.new names.new types.new) }
+) -> Result<(u16, u32), Refusal>
+    ensures { Does r.entry depth (dimensions dimension) st.old t.old result st.new t.new }
 {
-    let k = number(s, st);
-    let v = k.value;
-    let next = k.state;
-    match v {
-        Value::Is(len) => {
-            if dimension <= 1 {
-                let g = elem(s, t, names, types, next, lim, depth);
-                return array_end(t, g, lim, len);
-            }
-            if depth == 0 {
-                return refused(Refusal::Deep, next);
-            }
-            let left = depth - 1;
-            let g = dims(
-                s,
-                t,
-                names,
-                types,
-                opened(next, lim.depth, left),
-                lim,
-                left,
-                dimension - 1,
-            );
-            array_end(t, g, lim, len)
-        }
-        Value::Bad => refused(Refusal::Syntax, next),
-    }
+    let q = r.number(st)?;
+    let (n, class) = if dimension <= 1 {
+        elem(r, t, st, depth)?
+    } else {
+        let left = r.open(st, depth)?;
+        dims(r, t, st, left, dimension - 1)?
+    };
+    let a = r.above(t, st, n, kinds::ARRAY, class, q)?;
+    Ok((a, class))
 }
 
 // An array's element, with its class.
 #[cycle(readers)]
-fn elem(
-    s: &[u8],
-    t: &mut [u32],
-    names: &mut Entries,
-    types: &mut Entries,
-    st: Spot,
-    lim: Limits,
-    depth: u16,
-) -> Got
-    requires { Short s.now }
-    ensures { Does s.now lim.depth lim.room depth element st (lent t.old names.old types.old) sized result (lent t.new names.new types.new) }
+fn elem(r: Reader, t: &mut [u32], st: &mut State, depth: u16) -> Result<(u16, u32), Refusal>
+    ensures { Does r.entry depth element st.old t.old result st.new t.new }
 {
-    let c = element_class(s, st);
-    let v = c.value;
-    match v {
-        Value::Is(class) => {
-            let g = vtype(s, t, names, types, c.state, lim, depth, 0);
-            beside(g, class)
-        }
-        Value::Bad => refused(Refusal::Syntax, c.state),
-    }
+    let class = r.element_class(st)?;
+    let n = vtype(r, t, st, depth, 0)?;
+    Ok((n, class))
 }
 
 // read_func_params
 #[cycle(readers)]
-fn fparams(
-    s: &[u8],
-    t: &mut [u32],
-    names: &mut Entries,
-    types: &mut Entries,
-    st: Spot,
-    lim: Limits,
-    depth: u16,
-) -> Got
-    requires { Short s.now }
-    ensures { Does s.now lim.depth lim.room depth func_params st (lent t.old names.old types.old) plain result (lent t.new names.new types.new) }
+fn fparams(r: Reader, t: &mut [u32], st: &mut State, depth: u16) -> Result<u16, Refusal>
+    ensures { Does r.entry depth func_params st.old t.old result st.new t.new }
 {
-    if scan::cursor::consume(b"X", s, st.at as usize) {
-        let x = literal_part(b"X", s, t, st, lim, depth, kinds::VOID, 0);
-        let l = placed(t, x, lim, kinds::TYPE_PLACE, 0);
-        return ended(s, l);
-    }
-    let g = params(s, t, names, types, st, lim, depth);
-    ended(s, g)
+    let l = if scan::cursor::consume(b"X", r.s, st.at as usize) {
+        let n = literal_part(r, t, st, depth, b"X", kinds::VOID, 0)?;
+        r.place(t, st, n, kinds::TYPE_PLACE, 0)?
+    } else {
+        params(r, t, st, depth)?
+    };
+    r.expect(st, b"Z")?;
+    Ok(l)
 }
 
 // read_params
 #[cycle(readers)]
-fn params(
-    s: &[u8],
-    t: &mut [u32],
-    names: &mut Entries,
-    types: &mut Entries,
-    first: Spot,
-    lim: Limits,
-    depth: u16,
-) -> Got
-    requires { Short s.now }
-    ensures { Does s.now lim.depth lim.room depth params first (lent t.old names.old types.old) plain result (lent t.new names.new types.new) }
+fn params(r: Reader, t: &mut [u32], st: &mut State, depth: u16) -> Result<u16, Refusal>
+    ensures { Does r.entry depth params st.old t.old result st.new t.new }
 {
-    let mut st = first;
     let mut last = 0u16;
-    let mut left = turns(s, first);
-    while 0 < left {
-        if list_stops(s, st) {
-            return list_end(s, t, st, lim, depth, last);
+    for _ in 0..turns(r.s, st.at) {
+        if list_stops(r.s, st.at) {
+            return list_end(r, t, st, depth, last);
         }
-        let g = param(s, t, names, types, st, lim, depth, last);
-        let a = g.answer;
-        match a {
-            Answer::Node(p) => {
-                last = p;
-                let next = g.state;
-                st = next;
-            }
-            Answer::Refused(_) => return g,
-        }
-        left -= 1;
+        last = param(r, t, st, depth, last)?;
     }
-    refused(Refusal::Syntax, st)
+    Err(Refusal::Syntax)
 }
 
 // A parameter and its place.
 #[cycle(readers)]
-fn param(
-    s: &[u8],
-    t: &mut [u32],
-    names: &mut Entries,
-    types: &mut Entries,
-    st: Spot,
-    lim: Limits,
-    depth: u16,
-    last: u16,
-) -> Got
-    requires { Short s.now }
-    ensures { Does s.now lim.depth lim.room depth (digit (stored_param last) (new_param last)) st (lent t.old names.old types.old) plain result (lent t.new names.new types.new) }
+fn param(r: Reader, t: &mut [u32], st: &mut State, depth: u16, last: u16) -> Result<u16, Refusal>
+    ensures { Does r.entry depth (digit (stored_param last) (new_param last)) st.old t.old result st.new t.new }
 {
-    let d = digit(s, st);
-    let v = d.value;
-    match v {
-        Value::Is(i) => placed(t, type_of(types, d.state, i), lim, kinds::TYPE_PLACE, last),
-        Value::Bad => {
-            let g = vtype(s, t, names, types, st, lim, depth, 0);
-            param_end(s, t, types, g, lim, st.at, last)
-        }
+    let from = st.at;
+    if let Some(i) = r.digit(st) {
+        let n = type_of(st, i)?;
+        return r.place(t, st, n, kinds::TYPE_PLACE, last);
     }
+    let n = vtype(r, t, st, depth, 0)?;
+    param_end(r, t, st, n, from, last)
 }
 
 // read_scope
 #[cycle(readers)]
-fn scope(
-    s: &[u8],
-    t: &mut [u32],
-    names: &mut Entries,
-    types: &mut Entries,
-    first: Spot,
-    lim: Limits,
-    depth: u16,
-) -> Got
-    requires { Short s.now }
-    ensures { Does s.now lim.depth lim.room depth scope first (lent t.old names.old types.old) plain result (lent t.new names.new types.new) }
+fn scope(r: Reader, t: &mut [u32], st: &mut State, depth: u16) -> Result<u16, Refusal>
+    ensures { Does r.entry depth scope st.old t.old result st.new t.new }
 {
-    let mut st = first;
     let mut last = 0u16;
-    let mut left = turns(s, first);
-    while 0 < left {
-        let e = expect(b"@", s, st);
-        let v = e.value;
-        match v {
-            Value::Is(_) => return found(last, e.state),
-            Value::Bad => {}
+    for _ in 0..turns(r.s, st.at) {
+        if r.consume(st, b"@") {
+            return Ok(last);
         }
-        let g = sname(s, t, names, types, st, lim, depth, last);
-        let a = g.answer;
-        match a {
-            Answer::Node(p) => {
-                last = p;
-                let next = g.state;
-                st = next;
-            }
-            Answer::Refused(_) => return g,
-        }
-        left -= 1;
+        last = sname(r, t, st, depth, last)?;
     }
-    refused(Refusal::Syntax, st)
+    Err(Refusal::Syntax)
 }
 
 // A name of a scope and its place.
 #[cycle(readers)]
-fn sname(
-    s: &[u8],
-    t: &mut [u32],
-    names: &mut Entries,
-    types: &mut Entries,
-    st: Spot,
-    lim: Limits,
-    depth: u16,
-    last: u16,
-) -> Got
-    requires { Short s.now }
-    ensures { Does s.now lim.depth lim.room depth (scope_name last) st (lent t.old names.old types.old) plain result (lent t.new names.new types.new) }
+fn sname(r: Reader, t: &mut [u32], st: &mut State, depth: u16, last: u16) -> Result<u16, Refusal>
+    ensures { Does r.entry depth (scope_name last) st.old t.old result st.new t.new }
 {
-    let g = nname(s, t, names, types, st, lim, depth);
-    placed(t, g, lim, kinds::NAME_PLACE, last)
+    let n = nname(r, t, st, depth)?;
+    r.place(t, st, n, kinds::NAME_PLACE, last)
 }
 
 // read_template_name: its own memo, and the outer one comes back.
 #[cycle(readers)]
-fn tmpl(
-    s: &[u8],
-    t: &mut [u32],
-    names: &mut Entries,
-    types: &mut Entries,
-    st: Spot,
-    lim: Limits,
-    depth: u16,
-) -> Got
-    requires { Short s.now }
-    ensures { Does s.now lim.depth lim.room depth template_name st (lent t.old names.old types.old) plain result (lent t.new names.new types.new) }
+fn tmpl(r: Reader, t: &mut [u32], st: &mut State, depth: u16) -> Result<u16, Refusal>
+    ensures { Does r.entry depth template_name st.old t.old result st.new t.new }
 {
-    let outer = aside(names, types, st);
-    let g = unqn(s, t, names, types, emptied(st), lim, depth, false);
-    let a = g.answer;
-    match a {
-        Answer::Node(n) => {
-            let l = params(s, t, names, types, g.state, lim, depth);
-            template_end(t, names, types, l, lim, n, outer)
-        }
-        Answer::Refused(_) => g,
-    }
+    let outer = aside(st);
+    let (n, _) = unqn(r, t, st, depth, false)?;
+    let l = params(r, t, st, depth)?;
+    put_back(st, outer);
+    let kind = kinds::TEMPLATE;
+    let a = to(n);
+    let b = u32::from(l);
+    r.shut(
+        t,
+        st,
+        Node {
+            kind,
+            a,
+            b,
+            ..BLANK
+        },
+    )
 }
 
-// read_name
+// read_name: beside the node stands whether it is a guard's.
 #[cycle(readers)]
 fn name(
-    s: &[u8],
+    r: Reader,
     t: &mut [u32],
-    names: &mut Entries,
-    types: &mut Entries,
-    st: Spot,
-    lim: Limits,
+    st: &mut State,
     depth: u16,
     function: bool,
-) -> Got
-    requires { Short s.now }
-    ensures { Reads s.now lim.depth lim.room depth (tags.Name function) st (lent t.old names.old types.old) guarded result (lent t.new names.new types.new) }
+) -> Result<(u16, bool), Refusal>
+    ensures { Reads r.entry depth (tags.Name function) st.old t.old result st.new t.new }
 {
-    if depth == 0 {
-        return refused(Refusal::Deep, st);
-    }
-
-    let left = depth - 1;
-    let g = unqn(
-        s,
+    let left = r.open(st, depth)?;
+    let (n, guard) = unqn(r, t, st, left, function)?;
+    let l = scope(r, t, st, left)?;
+    let kind = kinds::SYMBOL;
+    let a = to(n);
+    let b = u32::from(l);
+    let s = r.shut(
         t,
-        names,
-        types,
-        opened(st, lim.depth, left),
-        lim,
-        left,
-        function,
-    );
-    let a = g.answer;
-    match a {
-        Answer::Node(n) => {
-            let l = scope(s, t, names, types, g.state, lim, left);
-            let k = over(
-                t,
-                l,
-                lim,
-                made(kinds::SYMBOL, (n as u32) + 1, 0, 0, 0, 0, 0),
-            );
-            beside(k, g.extra)
-        }
-        Answer::Refused(_) => g,
-    }
+        st,
+        Node {
+            kind,
+            a,
+            b,
+            ..BLANK
+        },
+    )?;
+    Ok((s, guard))
 }
 
 // read_unqualified_name, as it is called: a digit opens no part.
 #[cycle(readers)]
 fn unqn(
-    s: &[u8],
+    r: Reader,
     t: &mut [u32],
-    names: &mut Entries,
-    types: &mut Entries,
-    st: Spot,
-    lim: Limits,
+    st: &mut State,
     depth: u16,
     function: bool,
-) -> Got
-    requires { Short s.now }
-    ensures { Does s.now lim.depth lim.room depth (unqualified_name function) st (lent t.old names.old types.old) guarded result (lent t.new names.new types.new) }
+) -> Result<(u16, bool), Refusal>
+    ensures { Does r.entry depth (unqualified_name function) st.old t.old result st.new t.new }
 {
-    let d = digit(s, st);
-    let v = d.value;
-    match v {
-        Value::Is(i) => name_of(names, d.state, i),
-        Value::Bad => unq(s, t, names, types, st, lim, depth, function),
+    match r.digit(st) {
+        Some(i) => {
+            let n = name_of(st, i)?;
+            Ok((n, false))
+        }
+        None => unq(r, t, st, depth, function),
     }
 }
 
 // read_unqualified_name
 #[cycle(readers)]
 fn unq(
-    s: &[u8],
+    r: Reader,
     t: &mut [u32],
-    names: &mut Entries,
-    types: &mut Entries,
-    st: Spot,
-    lim: Limits,
+    st: &mut State,
     depth: u16,
     function: bool,
-) -> Got
-    requires { Short s.now }
-    ensures { Reads s.now lim.depth lim.room depth (Unqualified function) st (lent t.old names.old types.old) guarded result (lent t.new names.new types.new) }
+) -> Result<(u16, bool), Refusal>
+    ensures { Reads r.entry depth (Unqualified function) st.old t.old result st.new t.new }
 {
-    if depth == 0 {
-        return refused(Refusal::Deep, st);
-    }
-
-    let left = depth - 1;
-    let k = unqualified_shape(s, opened(st, lim.depth, left));
-    let next = k.state;
-    let f = k.shape;
-    match f {
+    let left = r.open(st, depth)?;
+    match unqualified_shape(r, st)? {
         UnqualifiedShape::Template => {
-            let g = tmpl(s, t, names, types, next, lim, left);
-            stored_unless(s, t, names, g, function)
+            let n = tmpl(r, t, st, left)?;
+            if !function {
+                r.memorize_name(t, st, n);
+            }
+            Ok((n, false))
         }
-        UnqualifiedShape::Special => special(s, t, names, types, next, lim, left),
-        UnqualifiedShape::Plain(start, len) => beside(
-            leaf_name(
-                s,
-                t,
-                names,
-                next,
-                lim,
-                kinds::NON_TEMPLATE,
-                start,
-                len,
-                true,
-            ),
-            0,
-        ),
-        UnqualifiedShape::Refused => refused(Refusal::Syntax, next),
+        UnqualifiedShape::Special => special(r, t, st, left),
+        UnqualifiedShape::Plain(start, len) => {
+            let n = leaf_name(r, t, st, kinds::NON_TEMPLATE, start, len, true)?;
+            Ok((n, false))
+        }
     }
 }
 
 // read_special_name
 #[cycle(readers)]
-fn special(
-    s: &[u8],
-    t: &mut [u32],
-    names: &mut Entries,
-    types: &mut Entries,
-    st: Spot,
-    lim: Limits,
-    depth: u16,
-) -> Got
-    requires { Short s.now }
-    ensures { Does s.now lim.depth lim.room depth special_name st (lent t.old names.old types.old) guarded result (lent t.new names.new types.new) }
+fn special(r: Reader, t: &mut [u32], st: &mut State, depth: u16) -> Result<(u16, bool), Refusal>
+    ensures { Does r.entry depth special_name st.old t.old result st.new t.new }
 {
-    let k = special_shape(s, st);
-    let next = k.state;
-    let f = k.shape;
-    match f {
-        SpecialShape::Operator(op) => beside(
-            shut_leaf(t, next, lim, kinds::OPERATOR, op, 0),
-            guard_of(op),
-        ),
-        SpecialShape::Type(class) => {
-            let g = vtype(s, t, names, types, next, lim, depth, class);
-            beside(above(t, g, lim, kinds::RTTI_TYPE_DESCRIPTOR, class, 0), 0)
+    match special_shape(r, st)? {
+        SpecialShape::Operator(op) => {
+            let n = r.shut_leaf(t, st, kinds::OPERATOR, op, 0)?;
+            Ok((n, is_guard(op)))
         }
-        SpecialShape::Base(p, q, r, flags) => beside(shut_base(t, next, lim, p, q, r, flags), 0),
-        SpecialShape::Refused => refused(Refusal::Syntax, next),
+        SpecialShape::Type(class) => {
+            let n = vtype(r, t, st, depth, class)?;
+            let d = r.above(t, st, n, kinds::RTTI_TYPE_DESCRIPTOR, class, 0)?;
+            Ok((d, false))
+        }
+        SpecialShape::Base(p, q, vbtable, s) => {
+            let base = Node {
+                kind: kinds::RTTI_BASE_CLASS_DESCRIPTOR,
+                p,
+                q,
+                r: vbtable,
+                s,
+                ..BLANK
+            };
+            let n = r.shut(t, st, base)?;
+            Ok((n, false))
+        }
     }
 }
 
 // read_nested_name, as it is called: a digit opens no part.
 #[cycle(readers)]
-fn nname(
-    s: &[u8],
-    t: &mut [u32],
-    names: &mut Entries,
-    types: &mut Entries,
-    st: Spot,
-    lim: Limits,
-    depth: u16,
-) -> Got
-    requires { Short s.now }
-    ensures { Does s.now lim.depth lim.room depth nested_name st (lent t.old names.old types.old) plain result (lent t.new names.new types.new) }
+fn nname(r: Reader, t: &mut [u32], st: &mut State, depth: u16) -> Result<u16, Refusal>
+    ensures { Does r.entry depth nested_name st.old t.old result st.new t.new }
 {
-    let d = digit(s, st);
-    let v = d.value;
-    match v {
-        Value::Is(i) => name_of(names, d.state, i),
-        Value::Bad => nested(s, t, names, types, st, lim, depth),
+    match r.digit(st) {
+        Some(i) => name_of(st, i),
+        None => nested(r, t, st, depth),
     }
 }
 
 // read_nested_name
 #[cycle(readers)]
-fn nested(
-    s: &[u8],
-    t: &mut [u32],
-    names: &mut Entries,
-    types: &mut Entries,
-    st: Spot,
-    lim: Limits,
-    depth: u16,
-) -> Got
-    requires { Short s.now }
-    ensures { Reads s.now lim.depth lim.room depth Nested st (lent t.old names.old types.old) plain result (lent t.new names.new types.new) }
+fn nested(r: Reader, t: &mut [u32], st: &mut State, depth: u16) -> Result<u16, Refusal>
+    ensures { Reads r.entry depth Nested st.old t.old result st.new t.new }
 {
-    if depth == 0 {
-        return refused(Refusal::Deep, st);
-    }
-
-    let left = depth - 1;
-    let k = name_shape(s, opened(st, lim.depth, left));
-    let next = k.state;
-    let f = k.shape;
-    match f {
-        NameShape::Stored(i) => name_of(names, next, i),
+    let left = r.open(st, depth)?;
+    match name_shape(r, st)? {
+        NameShape::Stored(i) => name_of(st, i),
         NameShape::Parsed => {
-            let g = parse(s, t, names, types, next, lim, left);
-            above(t, g, lim, kinds::PARSED_NAME, 0, 0)
+            let n = parse(r, t, st, left)?;
+            r.above(t, st, n, kinds::PARSED_NAME, 0, 0)
         }
         NameShape::Template => {
-            let g = tmpl(s, t, names, types, next, lim, left);
-            memorized(s, t, names, g)
+            let n = tmpl(r, t, st, left)?;
+            r.memorize_name(t, st, n);
+            Ok(n)
         }
-        NameShape::Leaf(kind, p, q, stored) => leaf_name(
-            s, t, names, next, lim, kind, p, q, stored,
-        ),
-        NameShape::Refused => refused(Refusal::Syntax, next),
+        NameShape::Leaf(kind, p, q, stored) => leaf_name(r, t, st, kind, p, q, stored),
     }
 }
 
 // parse
 #[cycle(readers)]
-pub fn parse(
-    s: &[u8],
-    t: &mut [u32],
-    names: &mut Entries,
-    types: &mut Entries,
-    st: Spot,
-    lim: Limits,
-    depth: u16,
-) -> Got
-    requires { Short s.now }
-    ensures { Reads s.now lim.depth lim.room depth Parse st (lent t.old names.old types.old) plain result (lent t.new names.new types.new) }
+pub fn parse(r: Reader, t: &mut [u32], st: &mut State, depth: u16) -> Result<u16, Refusal>
+    ensures { Reads r.entry depth Parse st.old t.old result st.new t.new }
 {
-    if depth == 0 {
-        return refused(Refusal::Deep, st);
-    }
-
-    let left = depth - 1;
-    let e = expect(b"?", s, opened(st, lim.depth, left));
-    let v = e.value;
-    match v {
-        Value::Is(_) => pform(s, t, names, types, e.state, lim, left),
-        Value::Bad => refused(Refusal::Syntax, e.state),
-    }
+    let left = r.open(st, depth)?;
+    r.expect(st, b"?")?;
+    pform(r, t, st, left)
 }
 
 // parse, behind its `?`.
 #[cycle(readers)]
-fn pform(
-    s: &[u8],
-    t: &mut [u32],
-    names: &mut Entries,
-    types: &mut Entries,
-    st: Spot,
-    lim: Limits,
-    depth: u16,
-) -> Got
-    requires { Short s.now }
-    ensures { Does s.now lim.depth lim.room depth (ordered parse_forms parse_of (parse_of Name)) st (lent t.old names.old types.old) plain result (lent t.new names.new types.new) }
+fn pform(r: Reader, t: &mut [u32], st: &mut State, depth: u16) -> Result<u16, Refusal>
+    ensures { Does r.entry depth (ordered parse_forms parse_of (parse_of Name)) st.old t.old result st.new t.new }
 {
-    let k = parse_form(s, st);
-    let next = k.state;
-    let f = k.form;
-    match f {
-        ParseForm::Md5 => parse_md5(s, t, next, lim, depth),
-        ParseForm::Guard => pguard(s, t, names, types, next, lim, depth),
-        ParseForm::Template => ptmpl(s, t, names, types, next, lim, depth),
-        ParseForm::Name => pname(s, t, names, types, next, lim, depth),
+    match parse_form(r, st) {
+        ParseForm::Md5 => parse_md5(r, t, st, depth),
+        ParseForm::Guard => pguard(r, t, st, depth),
+        ParseForm::Template => ptmpl(r, t, st, depth),
+        ParseForm::Name => pname(r, t, st, depth),
     }
 }
 
 // parse of a name and its type.
 #[cycle(readers)]
-fn pname(
-    s: &[u8],
-    t: &mut [u32],
-    names: &mut Entries,
-    types: &mut Entries,
-    st: Spot,
-    lim: Limits,
-    depth: u16,
-) -> Got
-    requires { Short s.now }
-    ensures { Does s.now lim.depth lim.room depth (parse_of Name) st (lent t.old names.old types.old) plain result (lent t.new names.new types.new) }
+fn pname(r: Reader, t: &mut [u32], st: &mut State, depth: u16) -> Result<u16, Refusal>
+    ensures { Does r.entry depth (parse_of Name) st.old t.old result st.new t.new }
 {
-    let g = name(s, t, names, types, st, lim, depth, true);
-    let a = g.answer;
-    match a {
-        Answer::Node(n) => {
-            let i = guard_index(s, g.state, g.extra);
-            let v = i.value;
-            match v {
-                Value::Is(index) => {
-                    let h = sym(s, t, names, types, i.state, lim, depth);
-                    parsed(t, h, lim, n, index)
-                }
-                Value::Bad => refused(Refusal::Syntax, i.state),
-            }
-        }
-        Answer::Refused(_) => g,
-    }
+    let (s, guard) = name(r, t, st, depth, true)?;
+    let index = guard_index(r, st, guard)?;
+    let n = sym(r, t, st, depth)?;
+    parsed(r, t, st, s, n, index)
 }
 
 // parse behind `?$TSS`.
 #[cycle(readers)]
-fn pguard(
-    s: &[u8],
-    t: &mut [u32],
-    names: &mut Entries,
-    types: &mut Entries,
-    st: Spot,
-    lim: Limits,
-    depth: u16,
-) -> Got
-    requires { Short s.now }
-    ensures { Does s.now lim.depth lim.room depth (parse_of Guard) st (lent t.old names.old types.old) plain result (lent t.new names.new types.new) }
+fn pguard(r: Reader, t: &mut [u32], st: &mut State, depth: u16) -> Result<u16, Refusal>
+    ensures { Does r.entry depth (parse_of Guard) st.old t.old result st.new t.new }
 {
-    let k = guard_number(s, st);
-    let v = k.value;
-    match v {
-        Value::Is(number) => {
-            let g = oguard(s, t, names, types, k.state, lim, depth);
-            let a = g.answer;
-            match a {
-                Answer::Node(n) => {
-                    let h = literal_part(
-                        b"4HA",
-                        s,
-                        t,
-                        g.state,
-                        lim,
-                        depth,
-                        kinds::THREAD_SAFE_STATIC_GUARD,
-                        number,
-                    );
-                    parsed(t, h, lim, n, 0)
-                }
-                Answer::Refused(_) => g,
-            }
-        }
-        Value::Bad => refused(Refusal::Syntax, k.state),
-    }
+    let number = r.guard_number(st)?;
+    let s = oguard(r, t, st, depth)?;
+    let kind = kinds::THREAD_SAFE_STATIC_GUARD;
+    let n = literal_part(r, t, st, depth, b"4HA", kind, number)?;
+    parsed(r, t, st, s, n, 0)
 }
 
 // parse behind `?$`.
 #[cycle(readers)]
-fn ptmpl(
-    s: &[u8],
-    t: &mut [u32],
-    names: &mut Entries,
-    types: &mut Entries,
-    st: Spot,
-    lim: Limits,
-    depth: u16,
-) -> Got
-    requires { Short s.now }
-    ensures { Does s.now lim.depth lim.room depth (parse_of Template) st (lent t.old names.old types.old) plain result (lent t.new names.new types.new) }
+fn ptmpl(r: Reader, t: &mut [u32], st: &mut State, depth: u16) -> Result<u16, Refusal>
+    ensures { Does r.entry depth (parse_of Template) st.old t.old result st.new t.new }
 {
-    let g = otmpl(s, t, names, types, st, lim, depth);
-    let a = g.answer;
-    match a {
-        Answer::Node(n) => {
-            let h = no_type(t, g.state, lim, depth);
-            parsed(t, h, lim, n, 0)
-        }
-        Answer::Refused(_) => g,
-    }
+    let s = otmpl(r, t, st, depth)?;
+    let n = no_type(r, t, st, depth)?;
+    parsed(r, t, st, s, n, 0)
 }
 
 // The symbol of `?$`.
 #[cycle(readers)]
-fn otmpl(
-    s: &[u8],
-    t: &mut [u32],
-    names: &mut Entries,
-    types: &mut Entries,
-    st: Spot,
-    lim: Limits,
-    depth: u16,
-) -> Got
-    requires { Short s.now }
-    ensures { Reads s.now lim.depth lim.room depth OuterTemplate st (lent t.old names.old types.old) plain result (lent t.new names.new types.new) }
+fn otmpl(r: Reader, t: &mut [u32], st: &mut State, depth: u16) -> Result<u16, Refusal>
+    ensures { Reads r.entry depth OuterTemplate st.old t.old result st.new t.new }
 {
-    if depth == 0 {
-        return refused(Refusal::Deep, st);
-    }
-
-    let left = depth - 1;
-    let g = oname(s, t, names, types, opened(st, lim.depth, left), lim, left);
-    above(t, g, lim, kinds::SYMBOL, 0, 0)
+    let left = r.open(st, depth)?;
+    let n = oname(r, t, st, left)?;
+    r.above(t, st, n, kinds::SYMBOL, 0, 0)
 }
 
 // Its name.
 #[cycle(readers)]
-fn oname(
-    s: &[u8],
-    t: &mut [u32],
-    names: &mut Entries,
-    types: &mut Entries,
-    st: Spot,
-    lim: Limits,
-    depth: u16,
-) -> Got
-    requires { Short s.now }
-    ensures { Reads s.now lim.depth lim.room depth OuterName st (lent t.old names.old types.old) plain result (lent t.new names.new types.new) }
+fn oname(r: Reader, t: &mut [u32], st: &mut State, depth: u16) -> Result<u16, Refusal>
+    ensures { Reads r.entry depth OuterName st.old t.old result st.new t.new }
 {
-    if depth == 0 {
-        return refused(Refusal::Deep, st);
-    }
-
-    let left = depth - 1;
-    tmpl(s, t, names, types, opened(st, lim.depth, left), lim, left)
+    let left = r.open(st, depth)?;
+    tmpl(r, t, st, left)
 }
 
 // The symbol of `?$TSS`.
 #[cycle(readers)]
-fn oguard(
-    s: &[u8],
-    t: &mut [u32],
-    names: &mut Entries,
-    types: &mut Entries,
-    st: Spot,
-    lim: Limits,
-    depth: u16,
-) -> Got
-    requires { Short s.now }
-    ensures { Reads s.now lim.depth lim.room depth OuterGuard st (lent t.old names.old types.old) plain result (lent t.new names.new types.new) }
+fn oguard(r: Reader, t: &mut [u32], st: &mut State, depth: u16) -> Result<u16, Refusal>
+    ensures { Reads r.entry depth OuterGuard st.old t.old result st.new t.new }
 {
-    if depth == 0 {
-        return refused(Refusal::Deep, st);
-    }
-
-    let left = depth - 1;
-    let g = nname(s, t, names, types, opened(st, lim.depth, left), lim, left);
-    let a = g.answer;
-    match a {
-        Answer::Node(n) => {
-            let l = scope(s, t, names, types, g.state, lim, left);
-            over(
-                t,
-                l,
-                lim,
-                made(kinds::OUTER_SYMBOL, (n as u32) + 1, 0, 0, 0, 0, 0),
-            )
-        }
-        Answer::Refused(_) => g,
-    }
+    let left = r.open(st, depth)?;
+    let n = nname(r, t, st, left)?;
+    let l = scope(r, t, st, left)?;
+    let kind = kinds::OUTER_SYMBOL;
+    let a = to(n);
+    let b = u32::from(l);
+    r.shut(
+        t,
+        st,
+        Node {
+            kind,
+            a,
+            b,
+            ..BLANK
+        },
+    )
 }
 
 // The symbol's own type.
 #[cycle(readers)]
-fn sym(
-    s: &[u8],
-    t: &mut [u32],
-    names: &mut Entries,
-    types: &mut Entries,
-    st: Spot,
-    lim: Limits,
-    depth: u16,
-) -> Got
-    requires { Short s.now }
-    ensures { Reads s.now lim.depth lim.room depth SymbolType st (lent t.old names.old types.old) plain result (lent t.new names.new types.new) }
+fn sym(r: Reader, t: &mut [u32], st: &mut State, depth: u16) -> Result<u16, Refusal>
+    ensures { Reads r.entry depth SymbolType st.old t.old result st.new t.new }
 {
-    if depth == 0 {
-        return refused(Refusal::Deep, st);
-    }
-
-    let left = depth - 1;
-    let k = symbol_shape(s, opened(st, lim.depth, left));
-    let next = k.state;
-    let f = k.shape;
-    match f {
-        SymbolShape::Variable(kind) => var(s, t, names, types, next, lim, left, kind),
-        SymbolShape::Table(kind, class) => {
-            let g = scope(s, t, names, types, next, lim, left);
-            table_end(t, g, lim, kind, class)
+    let left = r.open(st, depth)?;
+    match symbol_shape(r, st)? {
+        SymbolShape::Variable(kind) => var(r, t, st, left, kind),
+        SymbolShape::Table(kind, p) => {
+            let l = scope(r, t, st, left)?;
+            let a = u32::from(l);
+            r.shut(
+                t,
+                st,
+                Node {
+                    kind,
+                    a,
+                    p,
+                    ..BLANK
+                },
+            )
         }
-        SymbolShape::Function(member) => tail(
-            s,
-            t,
-            names,
-            types,
-            symbol_head(s, next, member),
-            lim,
-            left,
-        ),
-        SymbolShape::Leaf(kind, p, q) => shut_leaf(t, next, lim, kind, p, q),
-        SymbolShape::Refused => refused(Refusal::Syntax, next),
+        SymbolShape::Function(member) => {
+            let x = symbol_head(r, st, member)?;
+            tail(r, t, st, left, x)
+        }
+        SymbolShape::Leaf(kind, p, q) => r.shut_leaf(t, st, kind, p, q),
     }
 }
 
 // A variable of a kind.
 #[cycle(readers)]
-fn var(
-    s: &[u8],
-    t: &mut [u32],
-    names: &mut Entries,
-    types: &mut Entries,
-    st: Spot,
-    lim: Limits,
-    depth: u16,
-    kind: u32,
-) -> Got
-    requires { Short s.now }
-    ensures { Does s.now lim.depth lim.room depth (shape_symbol (Variable kind)) st (lent t.old names.old types.old) plain result (lent t.new names.new types.new) }
+fn var(r: Reader, t: &mut [u32], st: &mut State, depth: u16, kind: u32) -> Result<u16, Refusal>
+    ensures { Does r.entry depth (shape_symbol (Variable kind)) st.old t.old result st.new t.new }
 {
-    let g = vtype(s, t, names, types, st, lim, depth, 0);
-    let a = g.answer;
-    match a {
-        Answer::Node(n) => {
-            let c = storage_class(s, g.state);
-            shut(
-                t,
-                c.state,
-                lim,
-                made(kinds::VAR, (n as u32) + 1, 0, 0, c.bits, kind, 0),
-            )
-        }
-        Answer::Refused(_) => g,
-    }
+    let n = vtype(r, t, st, depth, 0)?;
+    let class = r.storage_class(st);
+    r.above(t, st, n, kinds::VAR, class, kind)
 }

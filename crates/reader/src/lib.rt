@@ -3,14 +3,14 @@
 
 ghost use Rattle.std.specs.Prelude.{◌≡◌, [], ◌++◌, ◌≤◌, min, length, drop, replicate};
 ghost use Rattle.node.specs.Cells.{nodes};
-ghost use Rattle.steps.specs.Does.{lent, full};
-ghost use Rattle.reader.specs.Whole.{begun, answered, table_left};
+ghost use Rattle.reader.specs.Whole.{answered, table_left};
 ghost use Rattle.scan.specs.Limits.{most_nodes};
 
 use cycle::parse;
-use grammar::{ENTRIES, Entries, Memo, Refusal, State};
+use grammar::{Refusal, State};
 use scan::limits::{DEEPEST_READING, LONGEST_SYMBOL, MOST_NODES};
-use steps::state::{Answer, Limits, Spot};
+use steps::memo::EMPTY;
+use steps::reader::Reader;
 
 // What a whole reading answers: nothing is read of a symbol or within a depth above the limits.
 #[derive(Clone, Copy)]
@@ -38,35 +38,13 @@ fn clear(t: &mut [u32], n: usize)
     }
 }
 
-fn begin() -> Spot
-    ensures { result ≡ begun }
-{
-    Spot {
-        at: 0,
-        used: 0,
-        deep: 0,
-        names_len: 0,
-        types_len: 0,
-    }
-}
-
-// The state with the memo in it.
-fn state_of(st: Spot, names: Entries, types: Entries) -> State
-    ensures { result ≡ full st (lent [] names types) }
-{
-    let m = Memo {
-        names,
-        types,
-        names_len: st.names_len,
-        types_len: st.types_len,
-    };
-    State {
-        at: st.at,
-        used: st.used,
-        deep: st.deep,
-        memo: m,
-    }
-}
+// A reading begins with an empty memo.
+const START: State = State {
+    at: 0,
+    used: 0,
+    deep: 0,
+    memo: EMPTY,
+};
 
 // The most nodes, as a budget has them.
 const MOST: u16 = MOST_NODES as u16;
@@ -84,39 +62,22 @@ pub fn read(s: &[u8], t: &mut [u32], limit: u16) -> Outcome
     ensures value { result ≡ answered s.now limit t.old }
     ensures t_after { t.new ≡ table_left s.now limit t.old }
 {
-    let first = begin();
-    let mut names = [0u16; ENTRIES];
-    let mut types = [0u16; ENTRIES];
-    if LONGEST_SYMBOL < s.len() {
-        return Outcome {
-            answer: Whole::Outside,
-            state: state_of(first, names, types),
-        };
+    let mut state = START;
+    if LONGEST_SYMBOL < s.len() || DEEPEST_READING < limit {
+        let answer = Whole::Outside;
+        return Outcome { answer, state };
     }
-    if DEEPEST_READING < limit {
-        return Outcome {
-            answer: Whole::Outside,
-            state: state_of(first, names, types),
-        };
-    }
-    let lim = Limits {
+    let r = Reader {
+        s,
         depth: limit,
         room: room_of(t),
     };
-    let g = parse(s, t, &mut names, &mut types, first, lim, limit);
-    let a = g.answer;
-    let end = state_of(g.state, names, types);
-    match a {
-        Answer::Node(n) => Outcome {
-            answer: Whole::Root(n),
-            state: end,
-        },
-        Answer::Refused(why) => {
-            clear(t, (end.used as usize) * node::CELLS);
-            Outcome {
-                answer: Whole::Refused(why),
-                state: end,
-            }
+    let answer = match parse(r, t, &mut state, limit) {
+        Ok(n) => Whole::Root(n),
+        Err(why) => {
+            clear(t, (state.used as usize) * node::CELLS);
+            Whole::Refused(why)
         }
-    }
+    };
+    Outcome { answer, state }
 }

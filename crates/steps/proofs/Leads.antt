@@ -7,107 +7,89 @@ use mathlib.Core.List.{List}
 use mathlib.Core.Bool.{Bool, true, false}
 use lib.Dec.{leb}
 use lib.ListN.{length, drop}
-use Rattle.scan.specs.Bytes.{bytes, starts, spelled}
-use Rattle.grammar.specs.Program.{ret, fail, look, when, sub, node, found, refused, Reply, Out, onward, run}
-use Rattle.grammar.specs.Words.{◌⇒◌∥◌, expect, here, ordered}
+use Rattle.std.specs.Prelude.{Result, Ok, Err}
+use Rattle.scan.specs.Bytes.{pick, bytes, starts, spelled}
+use Rattle.grammar.specs.Program.{ret, fail, look, when, sub, node, found, refused, Reply, Out, onward, run, at+}
+use Rattle.grammar.specs.Words.{◌⇒◌∥◌, here, ordered}
 use Rattle.grammar.specs.Table.{laid, same_table, shut_table, read_table}
 use Rattle.grammar.specs.Grammar.{Reading, body}
 use Rattle.grammar.specs.declared.State.{State}
+use Rattle.grammar.specs.declared.Refusal.{Refusal}
+use Rattle.grammar.specs.declared.Refusal.TheVariants.{Syntax}
 use Rattle.grammar.proofs.Ordered.{none, chosen, ordered-decided}
-use Rattle.steps.specs.Does.{Lent, full, further, runs, does, Values, Classes, Meets, Leads}
-use Rattle.steps.proofs.Laws.{met, unmet, closing-node}
-use Rattle.steps.specs.declared.state.Spot.{Spot}
-use Rattle.steps.specs.declared.state.Value.TheVariants.{Is, Bad}
-use Rattle.steps.specs.declared.state.Took.{Took}
-use Rattle.steps.specs.declared.state.Classed.{Classed}
+use Rattle.steps.specs.Does.{runs, goes_on, Values, Meets, Leads}
+use Rattle.steps.proofs.Laws.{runs-closing}
 
-module _ {s : List ℕ} {A : Type 0} where
-  pub leads-refl : {p : Reading A} {st : Spot} → Leads s p st p st
-  leads-refl = record { is = λ limit room d t. refl }
+module _ {s : List ℕ} {A X : Type 0} {k : X → Reading A} where
+  pub leads-ret : {x : X} {st : State} → Leads s (k x) st k (Ok x) st
+  leads-ret = record { is = λ limit room d t. refl }
 
-  pub leads-on : {p q q' : Reading A} {st st₁ st₂ : Spot} → Leads s p st q st₁ → Leads s q st₁ q' st₂ → Leads s p st q' st₂
-  leads-on a b = record { is = λ limit room d t. a.is limit room d t ∙ b.is limit room d t }
+  pub leads-fail : {st : State} → Leads s fail st k (Err Syntax) st
+  unfolding run
+  leads-fail = record { is = λ limit room d t. refl }
+
+  pub leads-as : {p q : Reading A} {g : Result X Refusal} {st st' : State} → p ≡ q → Leads s q st k g st' → Leads s p st k g st'
+  leads-as {st = st} e a = record { is = λ limit room d t. a.is limit room d t ∙ ap (λ p. runs s limit room d p st t) (sym e) }
 
   -- the same from another state
-  pub leads-from : {p q : Reading A} {st st' st₁ : Spot} → st ≡ st' → Leads s p st q st₁ → Leads s p st' q st₁
-  leads-from {p} {q} {st₁ = st₁} e a = rw (sym e) a
+  pub leads-from : {p : Reading A} {g : Result X Refusal} {st st₁ st' : State} → st ≡ st₁ → Leads s p st k g st' → Leads s p st₁ k g st'
+  leads-from {p} e a = rw (sym e) a
 
-  pub leads-look : {k : List ℕ → ℕ → Reading A} {q : Reading A} {st st' : Spot} → Leads s (k s st.at) st q st' → Leads s (look k) st q st'
+  pub leads-look : {p : List ℕ → ℕ → Reading A} {g : Result X Refusal} {st st' : State} → Leads s (p s st.at) st k g st' → Leads s (look p) st k g st'
   unfolding run
   leads-look a = record { is = a.is }
 
-  pub leads-when : {b : Bool} {p p' q : Reading A} {st st' : Spot} → b ≡ true → Leads s p st q st' → Leads s (when b p p') st q st'
+  pub leads-when : {b : Bool} {p q : Reading A} {g : Result X Refusal} {st st' : State} → b ≡ true → Leads s p st k g st' → Leads s (when b p q) st k g st'
   unfolding run
   leads-when e a = record { is = λ limit room d t. rw e (a.is limit room d t) }
 
-  pub leads-else : {b : Bool} {p p' q : Reading A} {st st' : Spot} → b ≡ false → Leads s p' st q st' → Leads s (when b p p') st q st'
+  pub leads-else : {b : Bool} {p q : Reading A} {g : Result X Refusal} {st st' : State} → b ≡ false → Leads s q st k g st' → Leads s (when b p q) st k g st'
   unfolding run
   leads-else e a = record { is = λ limit room d t. rw e (a.is limit room d t) }
 
-  pub leads-here : {k : ℕ → Reading A} {q : Reading A} {st st' : Spot} → Leads s (k st.at) st q st' → Leads s (sub here k) st q st'
+  pub leads-here : {p : ℕ → Reading A} {g : Result X Refusal} {st st' : State} → Leads s (p st.at) st k g st' → Leads s (sub here p) st k g st'
   unfolding run
   leads-here a = record { is = a.is }
 
-  pub leads-ret : {B : Type 0} {b : B} {k : B → Reading A} {q : Reading A} {st st' : Spot} → Leads s (k b) st q st' → Leads s (sub (ret b) k) st q st'
-  unfolding run
-  leads-ret a = record { is = a.is }
-
-  pub leads-value : {p : Reading ℕ} {k : ℕ → Reading A} {q : Reading A} {x : ℕ} {st st' : Spot} {r : Took} → Values s p st r → r.value ≡ Is x → Leads s (k x) r.state q st' → Leads s (sub p k) st q st'
+  pub leads-value : {B : Type 0} {p : Reading B} {h : B → Reading A} {b : B} {f : Result B Refusal} {g : Result X Refusal} {st st₁ st' : State} → Values s p st f st₁ → f ≡ Ok b → Leads s (h b) st₁ k g st' → Leads s (sub p h) st k g st'
   unfolding run
   leads-value v e a = record { is = λ limit room d t. rw (sym (v.is limit room d t), e) (a.is limit room d t) }
 
-  pub leads-bad : {p : Reading ℕ} {k : ℕ → Reading A} {st : Spot} {r : Took} → Values s p st r → r.value ≡ Bad → Leads s (sub p k) st fail r.state
+  pub leads-bad : {B : Type 0} {p : Reading B} {h : B → Reading A} {why : Refusal} {f : Result B Refusal} {g : Result X Refusal} {st st' : State} → Values s p st f st' → f ≡ Err why → g ≡ Err why → Leads s (sub p h) st k g st'
   unfolding run
-  leads-bad v e = record { is = λ limit room d t. rw (sym (v.is limit room d t), e) }
+  leads-bad v e q = record { is = λ limit room d t. rw (sym (v.is limit room d t), e, q) }
 
-  pub leads-class : {p : Reading ℕ} {k : ℕ → Reading A} {q : Reading A} {st st' : Spot} {r : Classed} → Classes s p st r → Leads s (k r.bits) r.state q st' → Leads s (sub p k) st q st'
+  pub leads-met : (b : String) {p q : Reading A} {there : Bool} {g : Result X Refusal} {st st₁ st' : State} → Meets (bytes b) s st there st₁ → there ≡ true → Leads s p st₁ k g st' → Leads s (b ⇒ p ∥ q) st k g st'
   unfolding run
-  leads-class c a = record { is = λ limit room d t. rw (sym (c.is limit room d t)) (a.is limit room d t) }
+  leads-met b {p = p} {st = st} m e a =
+      record { is = λ limit room d t. rw (sym m.is ∙ e) (a.is limit room d t ∙ ap (λ (x : State). runs s limit room d p x t) (m.behind ∙ ap (λ (c : Bool). pick c (at+ (length (bytes b)) st) st) e)) }
 
-  pub leads-met : (b : String) {p p' q : Reading A} {x : ℕ} {st st' : Spot} {r : Took} → Meets (bytes b) s st r → r.value ≡ Is x → Leads s p r.state q st' → Leads s (b ⇒ p ∥ p') st q st'
+  pub leads-unmet : (b : String) {p q : Reading A} {there : Bool} {g : Result X Refusal} {st st₁ st' : State} → Meets (bytes b) s st there st₁ → there ≡ false → Leads s q st₁ k g st' → Leads s (b ⇒ p ∥ q) st k g st'
   unfolding run
-  leads-met b {p = p} {st = st} {r = r} m e a =
-      let k = met (starts (bytes b) (drop st.at s)) 0 (further (length (bytes b)) st) st r m.is e in
-      record { is = λ limit room d t. rw k.0 (ap (λ (y : Spot). does s limit room d p y t) (sym k.2) ∙ a.is limit room d t) }
+  leads-unmet b {q = q} {st = st} m e a =
+      record { is = λ limit room d t. rw (sym m.is ∙ e) (a.is limit room d t ∙ ap (λ (x : State). runs s limit room d q x t) (m.behind ∙ ap (λ (c : Bool). pick c (at+ (length (bytes b)) st) st) e)) }
 
-  pub leads-unmet : (b : String) {p p' q : Reading A} {st st' : Spot} {r : Took} → Meets (bytes b) s st r → r.value ≡ Bad → Leads s p' st q st' → Leads s (b ⇒ p ∥ p') st q st'
-  unfolding run
-  leads-unmet b {st = st} {r = r} m e a =
-      record { is = λ limit room d t. rw (unmet (starts (bytes b) (drop st.at s)) 0 (further (length (bytes b)) st) st r m.is e).0 (a.is limit room d t) }
-
-  pub leads-expects : (b : String) {p q : Reading A} {x : ℕ} {st st' : Spot} {r : Took} → Meets (bytes b) s st r → r.value ≡ Is x → Leads s p r.state q st' → Leads s (sub (expect b) (λ _. p)) st q st'
-  unfolding run
-  leads-expects b {p = p} {st = st} {r = r} m e a =
-      let k = met (starts (bytes b) (drop st.at s)) 0 (further (length (bytes b)) st) st r m.is e in
-      record { is = λ limit room d t. rw k.0 (ap (λ (y : Spot). does s limit room d p y t) (sym k.2) ∙ a.is limit room d t) }
-
-  pub leads-expects-bad : (b : String) {p : Reading A} {st : Spot} {r : Took} → Meets (bytes b) s st r → r.value ≡ Bad → Leads s (sub (expect b) (λ _. p)) st fail r.state
-  unfolding run
-  leads-expects-bad b {st = st} {r = r} m e =
-      let k = unmet (starts (bytes b) (drop st.at s)) 0 (further (length (bytes b)) st) st r m.is e in
-      record { is = λ limit room d t. rw (k.0, k.1) }
-
-  -- inside a larger program
-  pub leads-sub : {B : Type 0} {p q : Reading B} {k : B → Reading A} {st st' : Spot} → Leads s p st q st' → Leads s (sub p k) st (sub q k) st'
-  unfolding run
-  leads-sub a = record { is = λ limit room d t. rw (a.is limit room d t) }
-
-  pub leads-fail : {B : Type 0} {k : B → Reading A} {st : Spot} → Leads s (sub fail k) st fail st
-  unfolding run
-  leads-fail = record { is = λ limit room d t. refl }
+-- what is found is read on by what does the same
+pub leads-on :
+    {s : List ℕ} {A X Y : Type 0} {p : Reading A} {h : Y → Reading A} {k : X → Reading A} {y : Y} {f : Result Y Refusal} {g : Result X Refusal} {st st₁ st' : State} →
+    Leads s p st h f st₁ → f ≡ Ok y → Leads s (h y) st₁ k g st' → Leads s p st k g st'
+leads-on a e b = record { is = λ limit room d t. let q = a.is limit room d t in b.is limit room d t ∙ (rw e at q) }
 
 -- programs that do the same from every state
 pub record Alike {A : Type 0} (s : List ℕ) (p q : Reading A) : Type 0 where
   pub is : (limit room d : ℕ) (st : State) (t : List ℕ) → runs s limit room d p st t ≡ runs s limit room d q st t
 
-pub leads-alike : {A : Type 0} {s : List ℕ} {p q : Reading A} {st : Spot} → Alike s p q → Leads s p st q st
-leads-alike {st = st} a = record { is = λ limit room d t. a.is limit room d (full st t) t.table }
+pub leads-alike : {A X : Type 0} {s : List ℕ} {p q : Reading A} {k : X → Reading A} {g : Result X Refusal} {st st' : State} → Alike s p q → Leads s q st k g st' → Leads s p st k g st'
+leads-alike {st = st} a l = record { is = λ limit room d t. l.is limit room d t ∙ sym (a.is limit room d st t) }
 
 onward-alike : {A B T : Type 0} (r : Reply B) (st : State) (t : T) (f f' : B → State → T → Out A T) → ((b : B) (st : State) (t : T) → f b st t ≡ f' b st t) → onward r st t f ≡ onward r st t f'
 onward-alike (found b) st t f f' h = h b st t
 onward-alike (refused why) st t f f' h = refl
 
 module _ {s : List ℕ} where
+  pub alike-refl : {A : Type 0} {p : Reading A} → Alike s p p
+  alike-refl = record { is = λ limit room d st t. refl }
+
   pub alike-sub : {A B : Type 0} {p : Reading B} {k k' : B → Reading A} → ((b : B) → Alike s (k b) (k' b)) → Alike s (sub p k) (sub p k')
   unfolding run
   alike-sub {p = p} {k = k} {k' = k'} h =
@@ -118,17 +100,17 @@ module _ {s : List ℕ} where
       {kd : ℕ} {numbers numbers' refs refs' : List ℕ} → laid kd 0 numbers refs ≡ laid kd 0 numbers' refs' → leb (length refs) 3 ≡ true → leb (length refs') 3 ≡ true →
       Alike s (node kd numbers refs ret) (node kd numbers' refs' ret)
   alike-node {kd} {numbers} {numbers'} {refs} {refs'} e h h' =
-      record { is = λ limit room d st t. (closing-node {s = s} {limit = limit} {room = room} {d = d} {kd = kd} {numbers = numbers} {refs = refs} refl h).is st t ∙ sym ((closing-node {s = s} {limit = limit} {room = room} {d = d} {kd = kd} {numbers = numbers'} {refs = refs'} e h').is st t) }
+      record { is = λ limit room d st t. runs-closing s limit room d kd numbers refs {x = laid kd 0 numbers refs} st t refl h ∙ sym (runs-closing s limit room d kd numbers' refs' {x = laid kd 0 numbers refs} st t e h') }
 
 -- what a leaf chose among spellings, and the production over the same table
 module _ {s : List ℕ} {X B A : Type 0} (make : X → ℕ → B) (value : B → X) (taken : B → ℕ) (says : (x : X) (n : ℕ) → (value (make x n) ≡ x) × (taken (make x n) ≡ n)) (k : X → Reading A) where
   pub leads-ordered :
-      (table : List (String × X)) (p : Reading A) (other : B) {b : B} {st : Spot} → b ≡ spelled make table other (drop st.at s) →
-      ((limit room d : ℕ) (t : Lent) → chosen table (drop st.at s) ≡ none → does s limit room d p st t ≡ does s limit room d (k (value other)) (further (taken other) st) t) →
-      Leads s (ordered table k p) st (k (value b)) (further (taken b) st)
+      (table : List (String × X)) (p : Reading A) (other : B) {b : B} {st : State} → b ≡ spelled make table other (drop st.at s) →
+      ((limit room d : ℕ) (t : List ℕ) → chosen table (drop st.at s) ≡ none → runs s limit room d p st t ≡ runs s limit room d (k (value other)) (at+ (taken other) st) t) →
+      Leads s (ordered table k p) st k (Ok (value b)) (at+ (taken b) st)
   leads-ordered table p other {b} {st} e h =
       record {
         is = λ limit room d t.
-            ordered-decided s (same_table s) (shut_table limit room) (read_table body s limit room d) make value taken says k table p other (full st t) t.table (h limit room d t)
-            ∙ ap (λ (b : B). does s limit room d (k (value b)) (further (taken b) st) t) (sym e);
+            sym (ordered-decided s (same_table s) (shut_table limit room) (read_table body s limit room d) make value taken says k table p other st t (h limit room d t)
+            ∙ ap (λ (b : B). runs s limit room d (k (value b)) (at+ (taken b) st) t) (sym e));
       }

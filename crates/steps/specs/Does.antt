@@ -1,175 +1,128 @@
 -- What the functions of a reading promise, by the programs that they follow. Assumes nothing: these are definitions.
-use Rattle.std.specs.Prelude.{ℕ, ◌+◌, ◌-◌, ◌<◌, max, ◌≡◌, List, [], ◌∷◌, Bool, length, drop, leb, eqb}
+use Rattle.std.specs.Prelude.{ℕ, zero, suc, ◌+◌, ◌-◌, ◌<◌, max, ◌≡◌, List, [], ◌∷◌, Bool, length, drop, take, set, get_or, leb, ltb, Option, Some, None, Result, Ok, Err}
 use Prim.Native.Char.{code}
 use Rattle.scan.specs.Bytes.{pick, starts, is_digit}
-use Rattle.scan.specs.declared.cursor.Leaf.{Leaf}
-use Rattle.scan.specs.declared.cursor.Leaf.TheVariants as leaf
-use Rattle.scan.specs.declared.cursor.Span.{Span}
-use Rattle.scan.specs.declared.cursor.Span.TheVariants as span
+use Rattle.scan.specs.Cursor.{Leaf, Span}
 use Rattle.letters.specs.declared.Class.{Class}
 use Rattle.node.specs.Cells.{stored}
 use Rattle.node.specs.declared.Node as row
 use Rattle.meaning.specs.Tree.{tree_of, eq_tree}
-use Rattle.grammar.specs.Program.{ret, sub, node, found, refused, Reply, Out, out, and_then, run, Store, added, with}
+use Rattle.grammar.specs.Program.{ret, sub, node, found, refused, Reply, Out, out, run, Store, added, with, any_of, at+}
 use Rattle.forms.specs.Types.{type_reference}
-use Rattle.forms.specs.declared.types.Reference.{Reference}
-use Rattle.forms.specs.declared.types.Reference.TheVariants.{Stored, Absent}
 use Rattle.grammar.specs.Words.{byte_at}
-use Rattle.grammar.specs.Counts.{rises, closed}
+use Rattle.grammar.specs.Counts.{rises, opened, closed}
 use Rattle.grammar.specs.Table.{counted, tallest_in, shut_at, shut_table, same_table, read_table}
 use Rattle.grammar.specs.Grammar.{Tag, Ans, Reading, body, to}
 use Rattle.grammar.specs.declared.State.{State}
 use Rattle.grammar.specs.declared.Refusal.{Refusal}
-use Rattle.grammar.specs.declared.Memo.{Memo}
-use Rattle.grammar.specs.declared.Refusal.TheVariants.{Syntax, Full}
-use Rattle.steps.specs.declared.state.Spot.{Spot}
-use Rattle.steps.specs.declared.state.Answer.{Answer}
-use Rattle.steps.specs.declared.state.Answer.TheVariants.{Node, Refused}
-use Rattle.steps.specs.declared.state.Got.{Got}
-use Rattle.steps.specs.declared.state.Value.{Value}
-use Rattle.steps.specs.declared.state.Value.TheVariants.{Is, Bad}
-use Rattle.steps.specs.declared.state.Took.{Took}
-use Rattle.steps.specs.declared.state.Classed.{Classed}
+use Rattle.grammar.specs.declared.Refusal.TheVariants.{Syntax, Deep, Full}
+use Rattle.steps.specs.declared.reader.Reader.{Reader}
 use Rattle.node.specs.Kind.{is_place}
-
--- what is lent to a reading: the node table, and the memo's names and types
-pub record Lent : Type 0 where
-  pub table : List ℕ
-  pub names : List ℕ
-  pub types : List ℕ
-
-abbrev pub lent : List ℕ → List ℕ → List ℕ → Lent
-lent t names types = record { table = t; names = names; types = types }
-
--- the memo and the grammar's state, by what is handed along and what is lent
-abbrev pub memo_of : Spot → List ℕ → List ℕ → Memo
-memo_of st names types = record { names = names; types = types; names_len = st.names_len; types_len = st.types_len }
-
-abbrev pub full : Spot → Lent → State
-full st t = record { at = st.at; used = st.used; deep = st.deep; memo = memo_of st t.names t.types }
 
 -- whether nodes n and e of the counted part of a table mean the same
 abbrev pub same_in : List ℕ → List ℕ → ℕ → ℕ → Bool
 same_in front s n e = eq_tree (tree_of front s (n + 1)) (tree_of front s (e + 1))
 
--- some bytes further; with one more part open; with one more node; with so many names and types in use
-abbrev pub further : ℕ → Spot → Spot
-further n st = record { at = st.at + n; used = st.used; deep = st.deep; names_len = st.names_len; types_len = st.types_len }
-
-abbrev pub opening : ℕ → Spot → Spot
-opening depth st = record { at = st.at; used = st.used; deep = max st.deep depth; names_len = st.names_len; types_len = st.types_len }
-
-abbrev pub closing : ℕ → Spot → Spot
-closing depth st = record { at = st.at; used = st.used + 1; deep = max st.deep depth; names_len = st.names_len; types_len = st.types_len }
-
-abbrev pub counting : ℕ → ℕ → Spot → Spot
-counting names types st = record { at = st.at; used = st.used; deep = st.deep; names_len = names; types_len = types }
-
-abbrev pub refused_at : Refusal → Spot → Got
-refused_at why st = record { answer = Refused why; extra = 0; state = st }
-
-abbrev pub found_at : ℕ → ℕ → Spot → Got
-found_at n extra st = record { answer = Node n; extra = extra; state = st }
-
--- how an answer is read: as a node, a node and whether it is a guard's, a node and its element's class
-pub data View : Type 0 → Type 1 where
-  plain : View ℕ
-  guarded : View (ℕ × Bool)
-  sized : View (ℕ × ℕ)
-
-abbrev pub value : {A : Type 0} → View A → ℕ → ℕ → A
-value plain n extra = n
-value guarded n extra = (n, eqb extra 1)
-value sized n extra = (n, extra)
-
-abbrev pub said : {A : Type 0} → View A → Answer → ℕ → Reply A
-said v (Node n) extra = found (value v n extra)
-said v (Refused why) extra = refused why
-
-abbrev pub goes : {A : Type 0} → View A → Got → Lent → Out A (List ℕ)
-goes v g t = out (said v g.answer g.extra) (full g.state t) t.table
+-- an answer or a refusal of the code, as the language has it
+abbrev pub replied : {A : Type 0} → Result A Refusal → Reply A
+replied (Ok a) = found a
+replied (Err why) = refused why
 
 -- what a program gives over the table, within a depth and a room, where d more parts may open
 abbrev pub runs : {A : Type 0} → List ℕ → ℕ → ℕ → ℕ → Reading A → State → List ℕ → Out A (List ℕ)
 runs s limit room d p st t = run s (same_table s) (shut_table limit room) (read_table body s limit room d) p st t
 
-abbrev pub does : {A : Type 0} → List ℕ → ℕ → ℕ → ℕ → Reading A → Spot → Lent → Out A (List ℕ)
-does s limit room d p st t = runs s limit room d p (full st t) t.table
+-- a reader's promise: its answer, and the state and the table that it leaves, are what the program, or the part, gives from those that it finds
+pub record Does {A : Type 0} (r : Reader) (d : ℕ) (p : Reading A) (st : State) (t : List ℕ) (g : Result A Refusal) (st' : State) (t' : List ℕ) : Type 0 where
+  pub is : out (replied g) st' t' ≡ runs r.s.now r.depth r.room d p st t
 
--- a reader's promise: its answer g and what is lent, t', are what the program, or the part, gives from the state st and the lent t
-pub record Does {A : Type 0} (s : List ℕ) (limit room d : ℕ) (p : Reading A) (st : Spot) (t : Lent) (v : View A) (g : Got) (t' : Lent) : Type 0 where
-  pub is : goes v g t' ≡ does s limit room d p st t
+pub record Reads (r : Reader) (d : ℕ) (tag : Tag) (st : State) (t : List ℕ) (g : Result (Ans tag) Refusal) (st' : State) (t' : List ℕ) : Type 0 where
+  pub is : out (replied g) st' t' ≡ read_table body r.s.now r.depth r.room d tag st t
 
-pub record Reads (s : List ℕ) (limit room d : ℕ) (tag : Tag) (st : Spot) (t : Lent) (v : View (Ans tag)) (g : Got) (t' : Lent) : Type 0 where
-  pub is : goes v g t' ≡ read_table body s limit room d tag (full st t) t.table
+-- one part more is open where one more may: how many more may then
+abbrev pub opening : ℕ → ℕ → State → Result ℕ Refusal × State
+opening limit zero st = (Err Deep, st)
+opening limit (suc d) st = (Ok d, opened (limit - d) st)
 
--- the same for what goes on with an answer: k is read where g has one, and a refusal stands
-pub record Follows {A B : Type 0} (s : List ℕ) (limit room d : ℕ) (v : View A) (g : Got) (t : Lent) (k : A → Reading B) (w : View B) (g' : Got) (t' : Lent) : Type 0 where
-  pub is : goes w g' t' ≡ and_then (goes v g t) (λ a st t. runs s limit room d (k a) st t)
+pub record Opening (r : Reader) (d : ℕ) (st : State) (g : Result ℕ Refusal) (st' : State) : Type 0 where
+  pub is : (g, st') ≡ opening r.depth d st
 
--- a program that leaves what is lent as it is: a number and the state behind it
-abbrev pub valued : Value → Reply ℕ
-valued (Is v) = found v
-valued Bad = refused Syntax
+-- a program that leaves the table as it is: what it says, and the state behind it
+pub record Values {A : Type 0} (s : List ℕ) (p : Reading A) (st : State) (g : Result A Refusal) (st' : State) : Type 0 where
+  pub is : (limit room d : ℕ) (t : List ℕ) → out (replied g) st' t ≡ runs s limit room d p st t
 
-pub record Values (s : List ℕ) (p : Reading ℕ) (st : Spot) (r : Took) : Type 0 where
-  pub is : (limit room d : ℕ) (t : Lent) → out (valued r.value) (full r.state t) t.table ≡ does s limit room d p st t
+-- a program goes on from a later state as the one of what is found does, or is refused there
+abbrev pub goes_on : {A X : Type 0} → List ℕ → ℕ → ℕ → ℕ → (X → Reading A) → Result X Refusal → State → List ℕ → Out A (List ℕ)
+goes_on s limit room d k (Ok x) st t = runs s limit room d (k x) st t
+goes_on s limit room d k (Err why) st t = out (refused why) st t
 
-pub record Classes (s : List ℕ) (p : Reading ℕ) (st : Spot) (r : Classed) : Type 0 where
-  pub is : (limit room d : ℕ) (t : Lent) → out (found r.bits) (full r.state t) t.table ≡ does s limit room d p st t
+pub record Leads {A X : Type 0} (s : List ℕ) (p : Reading A) (st : State) (k : X → Reading A) (g : Result X Refusal) (st' : State) : Type 0 where
+  pub is : (limit room d : ℕ) (t : List ℕ) → goes_on s limit room d k g st' t ≡ runs s limit room d p st t
 
 -- what a leaf says at a state's place
-abbrev pub took_leaf : Leaf → Spot → Took
-took_leaf (leaf.Value v n) st = record { value = Is v; state = further n st }
-took_leaf (leaf.Bad n) st = record { value = Bad; state = further n st }
+abbrev pub took_leaf : Leaf → State → Result ℕ Refusal × State
+took_leaf (Ok (v, n)) st = (Ok v, at+ n st)
+took_leaf (Err n) st = (Err Syntax, at+ n st)
 
-abbrev pub took_span : Span → Spot → Took
-took_span (span.Takes n) st = record { value = Is n; state = further n st }
-took_span (span.Bad n) st = record { value = Bad; state = further n st }
+abbrev pub took_span : Span → State → Result ℕ Refusal × State
+took_span (Ok n) st = (Ok n, at+ n st)
+took_span (Err n) st = (Err Syntax, at+ n st)
 
-abbrev pub classed_at : Class → Spot → Classed
-classed_at c st = record { bits = c.bits; state = further c.taken st }
+abbrev pub took_class : Class → State → ℕ × State
+took_class c st = (c.bits, at+ c.taken st)
 
 -- places have sixteen bits
 abbrev pub LeafRoom : ℕ → Leaf → Type 0
-LeafRoom at (leaf.Value v n) = at + n < 65536
-LeafRoom at (leaf.Bad n) = at + n < 65536
+LeafRoom at (Ok (v, n)) = at + n < 65536
+LeafRoom at (Err n) = at + n < 65536
 
 abbrev pub SpanRoom : ℕ → Span → Type 0
-SpanRoom at (span.Takes n) = at + n < 65536
-SpanRoom at (span.Bad n) = at + n < 65536
+SpanRoom at (Ok n) = at + n < 65536
+SpanRoom at (Err n) = at + n < 65536
 
 abbrev pub ClassRoom : ℕ → Class → Type 0
 ClassRoom at c = at + c.taken < 65536
 
--- the bytes b stand here and are taken, or they don't and nothing is
-pub record Meets (b s : List ℕ) (st : Spot) (r : Took) : Type 0 where
-  pub is : r ≡ pick (starts b (drop st.at s)) (record { value = Is 0; state = further (length b) st }) (record { value = Bad; state = st })
+-- so many bytes are taken where something stands here, and none where it doesn't
+abbrev pub taken_if : {A : Type 0} → Bool → ℕ → A → A → State → A × State
+taken_if there n a other st = pick there (a, at+ n st) (other, st)
+
+-- the bytes b stand here and are taken, or they don't and nothing is; where they must stand, that is a refusal
+pub record Meets (b s : List ℕ) (st : State) (there : Bool) (st' : State) : Type 0 where
+  pub is : there ≡ starts b (drop st.at s)
+  pub behind : st' ≡ pick there (at+ (length b) st) st
+
+pub record Expects (b s : List ℕ) (st : State) (g : Result (Unit {0}) Refusal) (st' : State) : Type 0 where
+  pub is : (g, st') ≡ taken_if (starts b (drop st.at s)) (length b) (Ok tt) (Err Syntax) st
 
 -- a digit stands here and is taken
-pub record Digits (s : List ℕ) (st : Spot) (r : Took) : Type 0 where
-  pub is : r ≡ pick (is_digit (byte_at s st.at)) (record { value = Is (byte_at s st.at - code "0"); state = further 1 st }) (record { value = Bad; state = st })
+pub record Digits (s : List ℕ) (st : State) (g : Option ℕ) (st' : State) : Type 0 where
+  pub is : (g, st') ≡ taken_if (is_digit (byte_at s st.at)) 1 (Some (byte_at s st.at - code "0")) None st
 
 -- a stored type is named here, and its bytes are taken
-abbrev pub took_reference : Reference → Spot → Took
-took_reference (Stored i n) st = record { value = Is i; state = further n st }
-took_reference Absent st = record { value = Bad; state = st }
+abbrev pub took_reference : Option (ℕ × ℕ) → State → Option ℕ × State
+took_reference (Some (i, n)) st = (Some i, at+ n st)
+took_reference None st = (None, st)
 
-pub record Refers (s : List ℕ) (st : Spot) (r : Took) : Type 0 where
-  pub is : r ≡ took_reference (type_reference (drop st.at s)) st
+pub record Refers (s : List ℕ) (st : State) (g : Option ℕ) (st' : State) : Type 0 where
+  pub is : (g, st') ≡ took_reference (type_reference (drop st.at s)) st
 
--- a program goes on as another one does from a later state
-pub record Leads {A : Type 0} (s : List ℕ) (p : Reading A) (st : Spot) (q : Reading A) (st' : Spot) : Type 0 where
-  pub is : (limit room d : ℕ) (t : Lent) → does s limit room d p st t ≡ does s limit room d q st' t
+-- the entry i of those of the memo that are in use
+abbrev pub stored_at : List ℕ → ℕ → ℕ → Result ℕ Refusal
+stored_at entries len i = pick (ltb i len) (Ok (get_or entries i 0)) (Err Syntax)
 
--- an entry of the memo; it is no guard's
-pub record Finds (p : Reading ℕ) (st : Spot) (t : Lent) (g : Got) : Type 0 where
-  pub is : (s : List ℕ) (limit room d : ℕ) → goes plain g t ≡ does s limit room d p st t
-  pub bare : g.extra ≡ 0
+pub record Finds (p : Reading ℕ) (st : State) (g : Result ℕ Refusal) : Type 0 where
+  pub is : (s : List ℕ) (limit room d : ℕ) (t : List ℕ) → out (replied g) st t ≡ runs s limit room d p st t
 
--- the node n is stored, unless an equal one is
-pub record Keeps (s : List ℕ) (w : Store) (n : ℕ) (st : Spot) (t : Lent) (st' : Spot) (t' : Lent) : Type 0 where
-  pub is : full st' t' ≡ with (added (same_table s st.used t.table) w n (full st t).memo) (full st t)
+-- the node n is stored behind the entries in use, unless there are ten or an equal one is among them
+abbrev pub adding : (ℕ → ℕ → Bool) → ℕ → List ℕ → ℕ → List ℕ × ℕ
+adding same n entries len = pick (ltb len 10) (pick (any_of (same n) (take len entries)) (entries, len) (set entries len n, len + 1)) (entries, len)
+
+pub record Adds (s : List ℕ) (used : ℕ) (t : List ℕ) (n : ℕ) (entries : List ℕ) (len : ℕ) (entries' : List ℕ) (len' : ℕ) : Type 0 where
+  pub is : (entries', len') ≡ adding (same_table s used t) n entries len
+
+pub record Keeps (s : List ℕ) (w : Store) (n : ℕ) (t : List ℕ) (st st' : State) : Type 0 where
+  pub is : st' ≡ with (added (same_table s st.used t) w n st.memo) st
 
 -- closing the node x, whose height is not yet in it
 abbrev pub raised : ℕ → row.Node → row.Node
@@ -181,31 +134,16 @@ shut_above limit room top x st t = let height = top + rises x.kind in shut_at li
 unfoldable pub shut_cells : ℕ → ℕ → row.Node → State → List ℕ → Out ℕ (List ℕ)
 shut_cells limit room x st t = shut_above limit room (tallest_in (counted st.used t) (x.a ∷ x.b ∷ x.c ∷ [])) x st t
 
--- of the memo nothing is asked and nothing changes
-pub record Shuts (limit room : ℕ) (x : row.Node) (st : Spot) (t : List ℕ) (g : Got) (t' : List ℕ) : Type 0 where
-  pub is : (names types : List ℕ) → goes plain g (lent t' names types) ≡ shut_cells limit room x (full st (lent t names types)) t
+pub record Shuts (r : Reader) (x : row.Node) (st : State) (t : List ℕ) (g : Result ℕ Refusal) (st' : State) (t' : List ℕ) : Type 0 where
+  pub is : out (replied g) st' t' ≡ shut_cells r.depth r.room x st t
 
 -- the same where the height of what the node refers to is known
-pub record Lays (limit room top : ℕ) (x : row.Node) (st : Spot) (t : List ℕ) (g : Got) (t' : List ℕ) : Type 0 where
-  pub is : (names types : List ℕ) → goes plain g (lent t' names types) ≡ shut_above limit room top x (full st (lent t names types)) t
+pub record Lays (r : Reader) (top : ℕ) (x : row.Node) (st : State) (t : List ℕ) (g : Result ℕ Refusal) (st' : State) (t' : List ℕ) : Type 0 where
+  pub is : out (replied g) st' t' ≡ shut_above r.depth r.room top x st t
 
 -- one node more, where there is room
-pub record Puts (room depth : ℕ) (x : row.Node) (st : Spot) (t : List ℕ) (g : Got) (t' : List ℕ) : Type 0 where
-  pub is :
-      (names types : List ℕ) →
-      goes plain g (lent t' names types)
-      ≡ pick (leb (st.used + 1) room) (out (found st.used) (closed depth (full st (lent t names types))) (stored t st.used x)) (out (refused Full) (full st (lent t names types)) t)
-
--- a counted node has a reference in sixteen bits
-pub record Small (g : Got) : Type 0 where
-  pub is : (n : ℕ) → g.answer ≡ Node n → n + 1 < 65536
-
--- closing a node above what g found; a refusal stands
-pub record Tops (limit room : ℕ) (g : Got) (t : List ℕ) (x : ℕ → row.Node) (g' : Got) (t' : List ℕ) : Type 0 where
-  pub is : (names types : List ℕ) → goes plain g' (lent t' names types) ≡ and_then (goes plain g (lent t names types)) (λ n st t. shut_cells limit room (x n) st t)
-
-abbrev pub row_of : ℕ → ℕ → ℕ → ℕ → ℕ → ℕ → ℕ → row.Node
-row_of kind a b c p q r = record { kind = kind; height = 0; a = a; b = b; c = c; p = p; q = q; r = r; s = 0 }
+pub record Puts (r : Reader) (depth : ℕ) (x : row.Node) (st : State) (t : List ℕ) (g : Result ℕ Refusal) (st' : State) (t' : List ℕ) : Type 0 where
+  pub is : out (replied g) st' t' ≡ pick (leb (st.used + 1) r.room) (out (found st.used) (closed depth st) (stored t st.used x)) (out (refused Full) st t)
 
 -- an entry's place, by the number of the place's kind
 abbrev pub place_of : ℕ → ℕ → ℕ → Reading ℕ

@@ -4,4 +4,5 @@
 pub mod close;
 pub mod leaves;
 pub mod memo;
+pub mod reader;
 pub mod state;

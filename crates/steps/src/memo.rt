@@ -1,46 +1,52 @@
-// The memo: a stored name or type by its digit, storing one more, and a template's own memo.
-ghost use Rattle.std.specs.Prelude.{◌≡◌, List, ℕ, ◌≤◌, eqb, get_or, take, drop, replicate};
+// The memo: a stored name or type by its digit, and storing one more.
+ghost use Rattle.std.specs.Prelude.{◌≡◌, List, ℕ, ◌≤◌, eqb, get_or, take, drop};
 ghost use Rattle.meaning.specs.Tree.{tree_of};
 ghost use Rattle.meaning.specs.Links.{Links, Judged};
 ghost use Rattle.grammar.specs.Program as store;
-ghost use Rattle.grammar.specs.Program.{any_of};
+ghost use Rattle.grammar.specs.Program.{any_of, with};
+ghost use Rattle.grammar.specs.Grammar.{empty_memo};
 ghost use Rattle.grammar.specs.Words.{name_of, type_of};
 ghost use Rattle.grammar.specs.Table.{counted};
-ghost use Rattle.steps.specs.Does.{lent, memo_of, counting, same_in, Finds, Keeps};
+ghost use Rattle.steps.specs.Does.{same_in, Finds, Adds, Keeps, stored_at};
 
-use crate::state::{Got, Spot, found, refused};
-use grammar::{ENTRIES, Entries, Memo, Refusal};
+use crate::reader::Reader;
+use grammar::{ENTRIES, Entries, Memo, Refusal, State};
 use meaning::links::LINKS;
 use meaning::{SPENT, VISITS};
+use std::mem;
+
+// No entry is in use.
+pub const EMPTY: Memo = Memo {
+    names: [0; ENTRIES],
+    types: [0; ENTRIES],
+    names_len: 0,
+    types_len: 0,
+};
 
 // A memo with so many names or types stores no more.
 const FULL: u8 = ENTRIES as u8;
 
-// The entry i, 0 past the last.
-fn entry(entries: Entries, i: usize) -> u16
-    ensures { result ≡ get_or entries i 0 }
+// The entry i of those in use.
+fn stored(entries: Entries, len: u8, i: u32) -> Result<u16, Refusal>
+    ensures { result ≡ stored_at entries len i }
 {
-    if i < ENTRIES { entries[i] } else { 0 }
+    if u32::from(len) <= i {
+        return Err(Refusal::Syntax);
+    }
+    let k = i as usize;
+    Ok(if k < ENTRIES { entries[k] } else { 0 })
 }
 
-pub fn name_of(names: &Entries, st: Spot, i: u32) -> Got
-    ensures { (t types : List ℕ) → Finds (name_of i) st (lent t names.now types) result }
+pub fn name_of(st: &State, i: u32) -> Result<u16, Refusal>
+    ensures { Finds (name_of i) st.now result }
 {
-    if i < (st.names_len as u32) {
-        let entries = *names;
-        return found(entry(entries, i as usize), st);
-    }
-    refused(Refusal::Syntax, st)
+    stored(st.memo.names, st.memo.names_len, i)
 }
 
-pub fn type_of(types: &Entries, st: Spot, i: u32) -> Got
-    ensures { (t names : List ℕ) → Finds (type_of i) st (lent t names types.now) result }
+pub fn type_of(st: &State, i: u32) -> Result<u16, Refusal>
+    ensures { Finds (type_of i) st.now result }
 {
-    if i < (st.types_len as u32) {
-        let entries = *types;
-        return found(entry(entries, i as usize), st);
-    }
-    refused(Refusal::Syntax, st)
+    stored(st.memo.types, st.memo.types_len, i)
 }
 
 // The counted part of the table.
@@ -142,85 +148,49 @@ fn holds(front: &[u32], s: &[u8], entries: Entries, len: u8, n: u16) -> bool
     sought(front, s, first, 0, n) != 0
 }
 
-// The state with so many names and types in use.
-fn counting(st: Spot, names_len: u8, types_len: u8) -> Spot
-    ensures { result ≡ counting names_len types_len st }
+// Stores the node n in one half of the memo, unless that is full or holds an equal one.
+fn add(t: &[u32], s: &[u8], used: u16, entries: &mut Entries, len: &mut u8, n: u16)
+    ensures { Adds s.now used t.now n entries.old len.old entries.new len.new }
 {
-    Spot {
-        at: st.at,
-        used: st.used,
-        deep: st.deep,
-        names_len,
-        types_len,
+    let first = *len;
+    if FULL <= first {
+        return;
     }
+    let held = *entries;
+    if holds(counted(t, used), s, held, first, n) {
+        return;
+    }
+    entries[first as usize] = n;
+    *len = first + 1;
 }
 
-pub fn memorize_name(t: &[u32], s: &[u8], names: &mut Entries, st: Spot, n: u16) -> Spot
-    ensures { (types : List ℕ) → Keeps s.now store.names n st (lent t.now names.old types) result (lent t.now names.new types) }
+// The memo goes aside, and an empty one takes its place.
+pub fn aside(st: &mut State) -> Memo
+    ensures value { result ≡ st.old.memo }
+    ensures state { st.new ≡ with empty_memo st.old }
 {
-    let len = st.names_len;
-    if FULL <= len {
-        return st;
-    }
-    let entries = *names;
-    if holds(counted(t, st.used), s, entries, len, n) {
-        return st;
-    }
-    let i = len as usize;
-    names[i] = n;
-    counting(st, len + 1, st.types_len)
-}
-
-pub fn memorize_type(t: &[u32], s: &[u8], types: &mut Entries, st: Spot, n: u16) -> Spot
-    ensures { (names : List ℕ) → Keeps s.now store.types n st (lent t.now names types.old) result (lent t.now names types.new) }
-{
-    let len = st.types_len;
-    if FULL <= len {
-        return st;
-    }
-    let entries = *types;
-    if holds(counted(t, st.used), s, entries, len, n) {
-        return st;
-    }
-    let i = len as usize;
-    types[i] = n;
-    counting(st, st.names_len, len + 1)
-}
-
-// The memo goes aside, and its entries are cleared.
-pub fn aside(names: &mut Entries, types: &mut Entries, st: Spot) -> Memo
-    ensures value { result ≡ memo_of st names.old types.old }
-    ensures names_after { names.new ≡ replicate 10 0 }
-    ensures types_after { types.new ≡ replicate 10 0 }
-{
-    let a = *names;
-    let b = *types;
-    *names = [0u16; ENTRIES];
-    *types = [0u16; ENTRIES];
-    Memo {
-        names: a,
-        types: b,
-        names_len: st.names_len,
-        types_len: st.types_len,
-    }
-}
-
-// No entry is in use.
-pub fn emptied(st: Spot) -> Spot
-    ensures { result ≡ counting 0 0 st }
-{
-    counting(st, 0, 0)
+    mem::replace(&mut st.memo, EMPTY)
 }
 
 // The memo comes back.
-pub fn put_back(names: &mut Entries, types: &mut Entries, m: Memo, st: Spot) -> Spot
-    ensures value { result ≡ counting m.names_len m.types_len st }
-    ensures names_after { names.new ≡ m.names }
-    ensures types_after { types.new ≡ m.types }
+pub fn put_back(st: &mut State, outer: Memo)
+    ensures { st.new ≡ with outer st.old }
 {
-    let a = m.names;
-    let b = m.types;
-    *names = a;
-    *types = b;
-    counting(st, m.names_len, m.types_len)
+    st.memo = outer;
+}
+
+impl Reader<'_> {
+    pub fn memorize_name(self, t: &[u32], st: &mut State, n: u16)
+        ensures { Keeps self.entry.s.now store.names n t.now st.old st.new }
+    {
+        let memo = &mut st.memo;
+        add(t, self.s, st.used, &mut memo.names, &mut memo.names_len, n);
+    }
+
+    pub fn memorize_type(self, t: &[u32], st: &mut State, n: u16)
+        ensures { Keeps self.entry.s.now store.types n t.now st.old st.new }
+    {
+        let memo = &mut st.memo;
+        add(t, self.s, st.used, &mut memo.types, &mut memo.types_len, n);
+    }
 }

@@ -1,5 +1,0 @@
--- Assumes nothing.
-use Rattle.steps.proofs.leaves.behind.Goals as goal
-
-pub returns : goal.returns
-returns c = rw c.past.ensures
