@@ -1,4 +1,3 @@
--- The parts that open no other, and what is stored behind an answer.
+-- The parts that open no other, and lists.
 pub mod Parts
-pub mod Names
 pub mod Lists

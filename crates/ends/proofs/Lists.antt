@@ -8,20 +8,20 @@ use native.Mathlib.Omega.{arith}
 use native.Mathlib.Numerals.{sub-one}
 use lib.Dec.{leb}
 use lib.ListN.{length, drop}
+use Rattle.std.specs.Prelude.{Result, Ok, Err}
 use Rattle.scan.specs.Bytes.{pick, bytes, starts}
 use Rattle.grammar.specs.Program.{ret, sub}
 use Rattle.grammar.specs.Words.{◌⇒◌∥◌, ◌↝◌∥◌, digit, at_end}
 use Rattle.node.specs.Kind.{NamePlace}
 use Rattle.grammar.specs.Grammar.{place, nested_name, scope_from, scope, list_end, stored_param, new_param, params_from, params}
+use Rattle.grammar.specs.declared.State.{State}
+use Rattle.grammar.specs.declared.Refusal.{Refusal}
 use Rattle.grammar.specs.declared.Refusal.TheVariants.{Syntax}
-use Rattle.steps.specs.Does.{Lent, refused_at, found_at, plain, Does, Meets}
+use Rattle.grammar.proofs.Funded.{true-false}
+use Rattle.steps.specs.Does.{Does, Meets}
+use Rattle.steps.specs.declared.reader.Reader.{Reader}
 use Rattle.steps.proofs.Laws.{does-ret, does-fail, does-look, does-when, does-else, on-met, on-unmet}
 use Rattle.steps.proofs.More.{does-as, does-assoc}
-use Rattle.steps.specs.declared.state.Spot.{Spot}
-use Rattle.steps.specs.declared.state.Got.{Got}
-use Rattle.steps.specs.declared.state.Value.TheVariants.{Is, Bad}
-use Rattle.steps.specs.declared.state.Took.{Took}
-use Rattle.grammar.proofs.Funded.{true-false}
 use Rattle.ends.specs.Ends.{list_stops, scope_name}
 
 scope-some : (f last : ℕ) → 0 < f → scope_from f last ≡ ("@" ⇒ ret last ∥ sub nested_name (λ n. sub (place NamePlace n last) (λ next. scope_from (f - 1) next)))
@@ -46,45 +46,43 @@ none_of true b c e = true-false e
 none_of false true c e = true-false e
 none_of false false c e = (refl, refl, e)
 
-module _ {s : List ℕ} {limit room d : ℕ} where
-  pub scope-starts : {f : ℕ} {st : Spot} {t t' : Lent} {g : Got} → f ≡ length s - st.at + 1 → Does s limit room d (scope_from f 0) st t plain g t' → Does s limit room d scope st t plain g t'
+module _ {r : Reader} {d : ℕ} where
+  pub scope-starts : {f : ℕ} {g : Result ℕ Refusal} {st st' : State} {t t' : List ℕ} → f ≡ length r.s.now - st.at + 1 → Does r d (scope_from f 0) st t g st' t' → Does r d scope st t g st' t'
   unfolding scope
-  scope-starts e r = does-look (does-as (ap (λ (f : ℕ). scope_from f 0) (sym e)) r)
+  scope-starts e h = does-look (does-as (ap (λ (f : ℕ). scope_from f 0) (sym e)) h)
 
-  pub scope_ends :
-      (f last : ℕ) {x : ℕ} {st : Spot} {r : Took} {t : Lent} {g : Got} → 0 < f → Meets (bytes "@") s st r → r.value ≡ Is x → g ≡ found_at last 0 r.state → Does s limit room d (scope_from f last) st t plain g t
-  scope_ends f last h m e q = does-as (scope-some f last h) (on-met "@" m e (does-ret q))
+  pub scope_ends : (f last : ℕ) {there : Bool} {st st' : State} {t : List ℕ} → 0 < f → Meets (bytes "@") r.s.now st there st' → there ≡ true → Does r d (scope_from f last) st t (Ok last) st' t
+  scope_ends f last h m e = does-as (scope-some f last h) (on-met "@" m e does-ret)
 
   pub scope-goes :
-      (f last : ℕ) {st : Spot} {r : Took} {t t' : Lent} {g : Got} → 0 < f → Meets (bytes "@") s st r → r.value ≡ Bad →
-      Does s limit room d (sub (scope_name last) (λ next. scope_from (f - 1) next)) st t plain g t' → Does s limit room d (scope_from f last) st t plain g t'
+      (f last : ℕ) {there : Bool} {g : Result ℕ Refusal} {st st₁ st' : State} {t t' : List ℕ} → 0 < f → Meets (bytes "@") r.s.now st there st₁ → there ≡ false →
+      Does r d (sub (scope_name last) (λ next. scope_from (f - 1) next)) st₁ t g st' t' → Does r d (scope_from f last) st t g st' t'
   scope-goes f last h m e q = does-as (scope-some f last h) (on-unmet "@" m e (does-assoc q))
 
-  pub scope-out : (f last : ℕ) {st : Spot} {t : Lent} {g : Got} → f ≤ 0 → g ≡ refused_at Syntax st → Does s limit room d (scope_from f last) st t plain g t
+  pub scope-out : (f last : ℕ) {st : State} {t : List ℕ} → f ≤ 0 → Does r d (scope_from f last) st t (Err Syntax) st t
   unfolding scope_from
-  scope-out f last h e = let z : f ≡ 0 = omega arith in does-as (ap (λ (f : ℕ). scope_from f last) z) (does-fail e)
+  scope-out f last h = let z : f ≡ 0 = omega arith in does-as (ap (λ (f : ℕ). scope_from f last) z) does-fail
 
-  pub params-starts : {f : ℕ} {st : Spot} {t t' : Lent} {g : Got} → f ≡ length s - st.at + 1 → Does s limit room d (params_from f 0) st t plain g t' → Does s limit room d params st t plain g t'
+  pub params-starts : {f : ℕ} {g : Result ℕ Refusal} {st st' : State} {t t' : List ℕ} → f ≡ length r.s.now - st.at + 1 → Does r d (params_from f 0) st t g st' t' → Does r d params st t g st' t'
   unfolding params
-  params-starts e r = does-look (does-as (ap (λ (f : ℕ). params_from f 0) (sym e)) r)
+  params-starts e h = does-look (does-as (ap (λ (f : ℕ). params_from f 0) (sym e)) h)
 
   -- where it stops, and where it goes on
   pub params-ends :
-      (f last : ℕ) {b : Bool} {st : Spot} {t t' : Lent} {g : Got} → 0 < f → b ≡ list_stops s st.at → b ≡ true →
-      Does s limit room d (list_end last) st t plain g t' → Does s limit room d (params_from f last) st t plain g t'
-  params-ends f last {st = st} h e q r =
+      (f last : ℕ) {b : Bool} {g : Result ℕ Refusal} {st st' : State} {t t' : List ℕ} → 0 < f → b ≡ list_stops r.s.now st.at → b ≡ true → Does r d (list_end last) st t g st' t' → Does r d (params_from f last) st t g st' t'
+  params-ends f last {st = st} h e q l =
       does-as (params-some f last h)
-      (⊎_elim (λ a. does-look (does-when a r))
-      (⊎_elim (λ a. does-look (does-else a.0 (does-look (does-when a.1 r)))) (λ a. does-look (does-else a.0 (does-look (does-else a.1 (does-look (does-when a.2 r)))))))
-      (one_of (starts (bytes "@") (drop st.at s)) (starts (bytes "Z") (drop st.at s)) (leb (length s) st.at) (sym e ∙ q)))
+      (⊎_elim (λ a. does-look (does-when a l))
+      (⊎_elim (λ a. does-look (does-else a.0 (does-look (does-when a.1 l)))) (λ a. does-look (does-else a.0 (does-look (does-else a.1 (does-look (does-when a.2 l)))))))
+      (one_of (starts (bytes "@") (drop st.at r.s.now)) (starts (bytes "Z") (drop st.at r.s.now)) (leb (length r.s.now) st.at) (sym e ∙ q)))
 
   pub params-goes :
-      (f last : ℕ) {b : Bool} {st : Spot} {t t' : Lent} {g : Got} → 0 < f → b ≡ list_stops s st.at → b ≡ false →
-      Does s limit room d (sub (digit (stored_param last) (new_param last)) (λ next. params_from (f - 1) next)) st t plain g t' → Does s limit room d (params_from f last) st t plain g t'
-  params-goes f last {st = st} h e q r =
-      let n = none_of (starts (bytes "@") (drop st.at s)) (starts (bytes "Z") (drop st.at s)) (leb (length s) st.at) (sym e ∙ q) in
-      does-as (params-some f last h) (does-look (does-else n.0 (does-look (does-else n.1 (does-look (does-else n.2 r))))))
+      (f last : ℕ) {b : Bool} {g : Result ℕ Refusal} {st st' : State} {t t' : List ℕ} → 0 < f → b ≡ list_stops r.s.now st.at → b ≡ false →
+      Does r d (sub (digit (stored_param last) (new_param last)) (λ next. params_from (f - 1) next)) st t g st' t' → Does r d (params_from f last) st t g st' t'
+  params-goes f last {st = st} h e q l =
+      let n = none_of (starts (bytes "@") (drop st.at r.s.now)) (starts (bytes "Z") (drop st.at r.s.now)) (leb (length r.s.now) st.at) (sym e ∙ q) in
+      does-as (params-some f last h) (does-look (does-else n.0 (does-look (does-else n.1 (does-look (does-else n.2 l))))))
 
-  pub params-out : (f last : ℕ) {st : Spot} {t : Lent} {g : Got} → f ≤ 0 → g ≡ refused_at Syntax st → Does s limit room d (params_from f last) st t plain g t
+  pub params-out : (f last : ℕ) {st : State} {t : List ℕ} → f ≤ 0 → Does r d (params_from f last) st t (Err Syntax) st t
   unfolding params_from
-  params-out f last h e = let z : f ≡ 0 = omega arith in does-as (ap (λ (f : ℕ). params_from f last) z) (does-fail e)
+  params-out f last h = let z : f ≡ 0 = omega arith in does-as (ap (λ (f : ℕ). params_from f last) z) does-fail

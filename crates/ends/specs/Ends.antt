@@ -1,25 +1,24 @@
 -- The ends of productions, and parts of a program that is no tag's. Assumes nothing: these are definitions.
-use Rattle.std.specs.Prelude.{ℕ, zero, suc, ◌-◌, ◌≡◌, List, [], ◌∷◌, Bool, true, false, length, drop, leb, ltb}
+use Rattle.std.specs.Prelude.{ℕ, zero, suc, ◌-◌, ◌≡◌, List, [], ◌∷◌, Bool, true, false, length, drop, leb, ltb, Result}
 use Rattle.scan.specs.Bytes.{pick, bytes, starts}
 use Rattle.grammar.specs.Program.{ret, fail, look, when, skip, node, found, refused, Out, out}
 use Rattle.grammar.specs.Counts.{opened}
-use Rattle.grammar.specs.Words.{◌>>=◌, ◌>>◌, expect, here, set_memo, memorize_name, memorize_type}
-use Rattle.node.specs.Kind.{NamePlace, TypePlace, Template, Array}
-use Rattle.grammar.specs.Grammar.{Reading, close, place, to, nested_name}
-use Rattle.grammar.specs.declared.Memo.{Memo}
+use Rattle.grammar.specs.Words.{◌>>=◌, ◌>>◌, here, memorize_name, memorize_type}
+use Rattle.node.specs.Kind.{NamePlace, TypePlace}
+use Rattle.grammar.specs.Grammar.{Reading, place, nested_name}
 use Rattle.grammar.specs.declared.State.{State}
+use Rattle.grammar.specs.declared.Refusal.{Refusal}
 use Rattle.grammar.specs.declared.Refusal.TheVariants.{Deep}
-use Rattle.steps.specs.Does.{Lent, full, View, goes, runs, does}
-use Rattle.steps.specs.declared.state.Spot.{Spot}
-use Rattle.steps.specs.declared.state.Got.{Got}
+use Rattle.steps.specs.Does.{replied, runs}
+use Rattle.steps.specs.declared.reader.Reader.{Reader}
 
 -- a part that reads p
 unfoldable pub opens_to : {A : Type 0} → List ℕ → ℕ → ℕ → ℕ → Reading A → State → List ℕ → Out A (List ℕ)
 opens_to s limit room zero p st t = out (refused Deep) st t
 opens_to s limit room (suc d) p st t = runs s limit room d p (opened (limit - d) st) t
 
-pub record Opens {A : Type 0} (s : List ℕ) (limit room d : ℕ) (p : Reading A) (st : Spot) (t : Lent) (v : View A) (g : Got) (t' : Lent) : Type 0 where
-  pub is : goes v g t' ≡ opens_to s limit room d p (full st t) t.table
+pub record Opens {A : Type 0} (r : Reader) (d : ℕ) (p : Reading A) (st : State) (t : List ℕ) (g : Result A Refusal) (st' : State) (t' : List ℕ) : Type 0 where
+  pub is : out (replied g) st' t' ≡ opens_to r.s.now r.depth r.room d p st t
 
 -- these bytes, and a node
 abbrev pub expect_bytes : List ℕ → Reading (Unit {0})
@@ -33,17 +32,9 @@ literal_of b kind numbers = do
 abbrev pub list_stops : List ℕ → ℕ → Bool
 list_stops s at = pick (starts (bytes "@") (drop at s)) true (pick (starts (bytes "Z") (drop at s)) true (leb (length s) at))
 
-abbrev pub ended : ℕ → Reading ℕ
-ended l = do
-  expect "Z"
-  ret l
-
 -- a type that took more than one byte is stored
 abbrev pub kept_type : ℕ → ℕ → ℕ → Reading (Unit {0})
 kept_type from end t = when (ltb 1 (end - from)) (memorize_type t) (ret tt)
-
-pub record Kept (s : List ℕ) (from n : ℕ) (st : Spot) (t : Lent) (st' : Spot) (t' : Lent) : Type 0 where
-  pub is : (limit room d : ℕ) → out (found tt) (full st' t') t'.table ≡ does s limit room d (kept_type from st.at n) st t
 
 abbrev pub param_end : ℕ → ℕ → ℕ → Reading ℕ
 param_end from last t = do
@@ -51,25 +42,10 @@ param_end from last t = do
   kept_type from end t
   place TypePlace t last
 
-abbrev pub template_end : Memo → ℕ → ℕ → Reading ℕ
-template_end outer n l = do
-  set_memo outer
-  close Template [] (to n ∷ l ∷ [])
-
-abbrev pub array_end : ℕ → ℕ × ℕ → Reading (ℕ × ℕ)
-array_end len inner = do
-  n ← close Array (inner.1 ∷ len ∷ []) (to inner.0 ∷ [])
-  ret (n, inner.1)
-
 abbrev pub scope_name : ℕ → Reading ℕ
 scope_name last = do
   n ← nested_name
   place NamePlace n last
-
-abbrev pub kept_name : ℕ → Reading ℕ
-kept_name n = do
-  memorize_name n
-  ret n
 
 -- a name that refers to none, stored or not
 abbrev pub leaf_name : ℕ → ℕ → ℕ → Bool → Reading ℕ

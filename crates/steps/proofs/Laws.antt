@@ -128,9 +128,12 @@ expected : (b : Bool) (g : Result (Unit {0}) Refusal) (n : ℕ) (st st' : State)
 expected true g n st st' t e = ap (λ (x : Result (Unit {0}) Refusal × State). out (replied x.0) x.1 t) e
 expected false g n st st' t e = ap (λ (x : Result (Unit {0}) Refusal × State). out (replied x.0) x.1 t) e
 
-pub values-expect : (b : String) {s : List ℕ} {g : Result (Unit {0}) Refusal} {st st' : State} → Expects (bytes b) s st g st' → Values s (expect b) st g st'
+pub values-stands : (b : List ℕ) {s : List ℕ} {g : Result (Unit {0}) Refusal} {st st' : State} → Expects b s st g st' → Values s (look λ s at. when (starts b (drop at s)) (skip (length b) (ret tt)) fail) st g st'
 unfolding run
-values-expect b {s} {g} {st} {st'} e = record { is = λ limit room d t. expected (starts (bytes b) (drop st.at s)) g (length (bytes b)) st st' t e.is }
+values-stands b {s} {g} {st} {st'} e = record { is = λ limit room d t. expected (starts b (drop st.at s)) g (length b) st st' t e.is }
+
+pub values-expect : (b : String) {s : List ℕ} {g : Result (Unit {0}) Refusal} {st st' : State} → Expects (bytes b) s st g st' → Values s (expect b) st g st'
+values-expect b e = values-stands (bytes b) e
 
 -- what a choice by a digit says
 some-is : {i j : ℕ} → ◌≡◌ {A = Option ℕ} (Some i) (Some j) → i ≡ j
@@ -193,13 +196,13 @@ ok-is e = cc
 err-is : {a b : Refusal} → ◌≡◌ {A = Result ℕ Refusal} (Err a) (Err b) → a ≡ b
 err-is e = cc
 
-at-some : (limit d : ℕ) (st : State) {g : Result ℕ Refusal} {st' : State} {left : ℕ} → (g, st') ≡ opening limit d st → g ≡ Ok left → (d ≡ suc left) × (st' ≡ opened (limit - left) st)
+pub at-some : (limit d : ℕ) (st : State) {g : Result ℕ Refusal} {st' : State} {left : ℕ} → (g, st') ≡ opening limit d st → g ≡ Ok left → (d ≡ suc left) × (st' ≡ opened (limit - left) st)
 at-some limit zero st {left = left} e h = let k : ◌≡◌ {A = Result ℕ Refusal} (Ok left) (Err Deep) = sym h ∙ ap (λ (y : Result ℕ Refusal × State). y.0) e in cc
 at-some limit (suc d) st {left = left} e h =
     let k : left ≡ d = ok-is (sym h ∙ ap (λ (y : Result ℕ Refusal × State). y.0) e) in
     (ap suc (sym k), ap (λ (y : Result ℕ Refusal × State). y.1) e ∙ ap (λ (x : ℕ). opened (limit - x) st) (sym k))
 
-at-none : (limit d : ℕ) (st : State) {g : Result ℕ Refusal} {st' : State} {why : Refusal} → (g, st') ≡ opening limit d st → g ≡ Err why → (d ≡ zero) × (why ≡ Deep) × (st' ≡ st)
+pub at-none : (limit d : ℕ) (st : State) {g : Result ℕ Refusal} {st' : State} {why : Refusal} → (g, st') ≡ opening limit d st → g ≡ Err why → (d ≡ zero) × (why ≡ Deep) × (st' ≡ st)
 at-none limit zero st e h = (refl, err-is (sym h ∙ ap (λ (y : Result ℕ Refusal × State). y.0) e), ap (λ (y : Result ℕ Refusal × State). y.1) e)
 at-none limit (suc d) st {why = why} e h = let k : ◌≡◌ {A = Result ℕ Refusal} (Err why) (Ok d) = sym h ∙ ap (λ (y : Result ℕ Refusal × State). y.0) e in cc
 

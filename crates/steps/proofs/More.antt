@@ -6,7 +6,7 @@ use mathlib.Core.List.{List}
 use mathlib.Core.Bool.{Bool, true, false}
 use native.Mathlib.Omega.{arith}
 use Rattle.std.specs.Prelude.{Result, Ok, Err}
-use Rattle.grammar.specs.Program.{ret, part, sub, found, refused, Reply, Out, out, onward, run, with}
+use Rattle.grammar.specs.Program.{ret, when, part, sub, found, refused, Reply, Out, out, onward, run, with}
 use Rattle.grammar.specs.Words.{here, memo, set_memo, refuse_if}
 use Rattle.grammar.specs.Grammar.{Dimension, Reading, nested_array, element}
 use Rattle.grammar.specs.declared.Memo.{Memo}
@@ -64,6 +64,19 @@ module _ {r : Reader} {d : ℕ} where
   unfolding run
   does-inner {p = p} {k = k} {h = h} {st = st} {t = t} q =
       record { is = q.is ∙ sym (onward-assoc (runs r.s.now r.depth r.room d p st t).reply (runs r.s.now r.depth r.room d p st t).state (runs r.s.now r.depth r.room d p st t).cells (λ c st t. runs r.s.now r.depth r.room d (k c) st t) (λ b st t. runs r.s.now r.depth r.room d (h b) st t)) }
+
+  -- an answer that is there, a choice that goes on
+  pub does-given : {A B : Type 0} {b : B} {k : B → Reading A} {g : Result A Refusal} {st st' : State} {t t' : List ℕ} → Does r d (k b) st t g st' t' → Does r d (sub (ret b) k) st t g st' t'
+  unfolding run
+  does-given h = record { is = h.is }
+
+  pub does-chosen : {A B : Type 0} {b : Bool} {p q : Reading B} {k : B → Reading A} {g : Result A Refusal} {st st' : State} {t t' : List ℕ} → b ≡ true → Does r d (sub p k) st t g st' t' → Does r d (sub (when b p q) k) st t g st' t'
+  unfolding run
+  does-chosen e h = record { is = rw e h.is }
+
+  pub does-other : {A B : Type 0} {b : Bool} {p q : Reading B} {k : B → Reading A} {g : Result A Refusal} {st st' : State} {t t' : List ℕ} → b ≡ false → Does r d (sub q k) st t g st' t' → Does r d (sub (when b p q) k) st t g st' t'
+  unfolding run
+  does-other e h = record { is = rw e h.is }
 
   -- a test that refuses
   pub does-refuse : {A : Type 0} {b : Bool} {q : Reading A} {st : State} {t : List ℕ} → b ≡ true → Does r d (sub (refuse_if b) (λ _. q)) st t (Err Syntax) st t

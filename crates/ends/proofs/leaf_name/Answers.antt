@@ -1,17 +1,14 @@
 -- Assumes nothing.
-use Rattle.steps.proofs.Laws.{closes}
 use mathlib.Core.Path.{refl}
-use Rattle.ends.proofs.Names.{leaf-stored, leaf-bare}
+use Rattle.steps.proofs.Laws.{handed, does-ret, does-sub, sub-refused, does-keeps, closes}
+use Rattle.steps.proofs.More.{does-given, does-chosen, does-other}
 use Rattle.ends.proofs.leaf_name.Goals as goal
 
-pub shape_of-t-then-stored : goal.shape_of-t-then-stored
-shape_of-t-then-stored c = c.shut_leaf-g.auto.t
+pub returns-in_err-n : goal.returns-in_err-n
+returns-in_err-n c = λ d. sub-refused (closes c.shut_leaf.ensures refl refl) c.in_err-n.was (handed c.from_residual.ensures)
 
 pub returns-then-stored : goal.returns-then-stored
-returns-then-stored c = λ types d. leaf-stored c.if-stored.true (closes c.shut_leaf-g.ensures refl refl) (c.memorized.ensures _ _ _ _)
+returns-then-stored c = λ d. does-sub (closes c.shut_leaf.ensures refl refl) c.in_ok-n.was (does-chosen c.if-stored.true (does-keeps c.memorize_name.ensures does-ret))
 
-pub shape_of-t : goal.shape_of-t
-shape_of-t c = c.shut_leaf-g.auto.t
-
-pub returns : goal.returns
-returns c = λ types d. leaf-bare c.if-stored.false (closes c.shut_leaf-g.ensures refl refl)
+pub returns-else-stored : goal.returns-else-stored
+returns-else-stored c = λ d. does-sub (closes c.shut_leaf.ensures refl refl) c.in_ok-n.was (does-other c.if-stored.false (does-given does-ret))

@@ -1,33 +1,28 @@
 -- Assumes nothing.
-use Rattle.steps.proofs.Laws.{does-ret, does-follows, does-part, expects, expects-bad, on-there, on-absent, does-look, does-when, does-else}
-use mathlib.Core.Path.{refl, sym, ◌∙◌}
 use mathlib.Core.List.{[]}
-use Rattle.grammar.specs.Grammar.{list_end, body, Variadic}
-use Rattle.ends.proofs.Parts.{reads-opens}
+use mathlib.Core.Path.{refl, sym, ◌∙◌}
 use borrow.Author.Tests.{le-leb, lt-leb}
+use Rattle.grammar.specs.Grammar.{body, list_end, Variadic}
+use Rattle.steps.proofs.Laws.{handed, values-expect, does-ret, does-look, does-when, does-else, does-part, does-sub, sub-refused, does-value, value-bad, on-there, on-absent}
+use Rattle.ends.proofs.Parts.{reads-opens}
 use Rattle.ends.proofs.list_end.Goals as goal
 
-pub literal_part-g-requires : goal.literal_part-g-requires
-literal_part-g-requires c = c.requires
-
-pub shape_of-t-then-consume : goal.shape_of-t-then-consume
-shape_of-t-then-consume c = c.placed.auto.t ∙ c.literal_part-g.auto.t
+pub returns-in_err-n : goal.returns-in_err-n
+unfolding list_end body
+returns-in_err-n c = on-there "Z" (sym c.consume.ensures ∙ c.if-consume.true) (sub-refused (does-part (reads-opens Variadic (c.literal_part.ensures [] refl))) c.in_err-n.was (handed c.from_residual.ensures))
 
 pub returns-then-consume : goal.returns-then-consume
 unfolding list_end body
-returns-then-consume c = λ names types. on-there "Z" (sym c.consume.ensures ∙ c.if-consume.true) (does-follows (does-part (reads-opens Variadic (c.literal_part-g.ensures [] names types refl))) (c.placed.ensures _ names types _))
+returns-then-consume c = on-there "Z" (sym c.consume.ensures ∙ c.if-consume.true) (does-sub (does-part (reads-opens Variadic (c.literal_part.ensures [] refl))) c.in_ok-n.was (c.place.ensures _))
 
-pub returns-then-s-st : goal.returns-then-s-st
+pub returns-then-r-st : goal.returns-then-r-st
 unfolding list_end
-returns-then-s-st c = λ names types. on-absent "Z" (sym c.consume.ensures ∙ c.if-consume.false) (does-look (does-when (le-leb _ _ c.if-s-st.true) (does-ret c.found.ensures)))
+returns-then-r-st c = on-absent "Z" (sym c.consume.ensures ∙ c.if-consume.false) (does-look (does-when (le-leb _ _ c.if-r-st.true) does-ret))
 
-pub expect-e-requires : goal.expect-e-requires
-expect-e-requires c = c.requires
-
-pub returns-in-Is : goal.returns-in-Is
+pub returns-in_err-expect : goal.returns-in_err-expect
 unfolding list_end
-returns-in-Is c = λ names types. on-absent "Z" (sym c.consume.ensures ∙ c.if-consume.false) (does-look (does-else (lt-leb _ _ c.if-s-st.false) (expects "@" c.expect-e.ensures c.in-Is.is (does-ret c.found-in-Is.ensures))))
+returns-in_err-expect c = on-absent "Z" (sym c.consume.ensures ∙ c.if-consume.false) (does-look (does-else (lt-leb _ _ c.if-r-st.false) (value-bad (values-expect "@" c.expect.ensures) c.in_err-expect.was (handed c.from_residual-in_err-expect.ensures))))
 
-pub returns-in-Bad : goal.returns-in-Bad
+pub returns : goal.returns
 unfolding list_end
-returns-in-Bad c = λ names types. on-absent "Z" (sym c.consume.ensures ∙ c.if-consume.false) (does-look (does-else (lt-leb _ _ c.if-s-st.false) (expects-bad "@" c.expect-e.ensures c.in-Bad.is c.refused.ensures)))
+returns c = on-absent "Z" (sym c.consume.ensures ∙ c.if-consume.false) (does-look (does-else (lt-leb _ _ c.if-r-st.false) (does-value (values-expect "@" c.expect.ensures) c.in_ok-expect.was does-ret)))

@@ -1,17 +1,14 @@
 -- Assumes nothing.
-use Rattle.steps.proofs.Laws.{closes}
 use mathlib.Core.Path.{refl, sym}
-use Rattle.ends.proofs.Parts.{opens-deep, opens-body, expects-bytes, expects-bytes-bad}
+use Rattle.steps.proofs.Laws.{handed, values-stands, does-value, value-bad, closes}
+use Rattle.ends.proofs.Parts.{opens-deep, opens-body}
 use Rattle.ends.proofs.literal_part.Goals as goal
 
-pub returns-then-depth-eq0 : goal.returns-then-depth-eq0
-returns-then-depth-eq0 c = λ numbers names types e. opens-deep c.if-depth-eq0.true c.refused.ensures
+pub returns-in_err-open : goal.returns-in_err-open
+returns-in_err-open c = λ numbers e. opens-deep c.open.ensures c.in_err-open.was (handed c.from_residual.ensures)
 
-pub expect-e-requires : goal.expect-e-requires
-expect-e-requires c = c.requires
+pub returns-in_err-expect : goal.returns-in_err-expect
+returns-in_err-expect c = λ numbers e. opens-body c.open.ensures c.in_ok-open.was (value-bad (values-stands c.args.literal.now c.expect.ensures) c.in_err-expect.was (handed c.from_residual-in_err-expect.ensures))
 
-pub returns-in-Is : goal.returns-in-Is
-returns-in-Is c = λ numbers names types e. opens-body c.if-depth-eq0.false c.opened.ensures (expects-bytes c.expect-e.ensures c.in-Is.is (closes c.shut_leaf.ensures (sym e) refl))
-
-pub returns-in-Bad : goal.returns-in-Bad
-returns-in-Bad c = λ numbers names types e. opens-body c.if-depth-eq0.false c.opened.ensures (expects-bytes-bad c.expect-e.ensures c.in-Bad.is c.refused-in-Bad.ensures)
+pub returns : goal.returns
+returns c = λ numbers e. opens-body c.open.ensures c.in_ok-open.was (does-value (values-stands c.args.literal.now c.expect.ensures) c.in_ok-expect.was (closes c.shut_leaf.ensures (sym e) refl))

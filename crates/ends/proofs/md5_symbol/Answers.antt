@@ -1,18 +1,16 @@
 -- Assumes nothing.
-use Rattle.steps.proofs.Laws.{does-follows, does-part, reads-deep, reads-body, closing-node, follows-tops}
-use mathlib.Core.Path.{refl, ◌∙◌}
+use mathlib.Core.Path.{refl}
 use Rattle.grammar.specs.Grammar.{body}
+use Rattle.steps.proofs.Laws.{handed, reads-deep, reads-body, does-part, does-sub, sub-refused, closes}
 use Rattle.ends.proofs.md5_symbol.Goals as goal
 
-pub returns-then-depth-eq0 : goal.returns-then-depth-eq0
-returns-then-depth-eq0 c = λ names types. reads-deep c.if-depth-eq0.true c.refused.ensures
+pub returns-in_err-left : goal.returns-in_err-left
+returns-in_err-left c = reads-deep c.open.ensures c.in_err-left.was (handed c.from_residual.ensures)
 
-pub md5_name-g-requires : goal.md5_name-g-requires
-md5_name-g-requires c = c.requires
-
-pub shape_of-t : goal.shape_of-t
-shape_of-t c = c.above.auto.t ∙ c.md5_name-g.auto.t
+pub returns-in_err-n : goal.returns-in_err-n
+unfolding body
+returns-in_err-n c = reads-body c.open.ensures c.in_ok-left.was (sub-refused (does-part c.md5_name.ensures) c.in_err-n.was (handed c.from_residual-in_err-n.ensures))
 
 pub returns : goal.returns
 unfolding body
-returns c = λ names types. reads-body c.if-depth-eq0.false c.opened.ensures (does-follows (does-part (c.md5_name-g.ensures names types)) (follows-tops c.above.ensures (λ n. closing-node refl refl)))
+returns c = reads-body c.open.ensures c.in_ok-left.was (does-sub (does-part c.md5_name.ensures) c.in_ok-n.was (closes c.above.ensures refl refl))

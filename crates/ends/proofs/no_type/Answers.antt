@@ -1,12 +1,12 @@
 -- Assumes nothing.
-use Rattle.steps.proofs.Laws.{reads-deep, reads-body, closes}
 use mathlib.Core.Path.{refl}
 use Rattle.grammar.specs.Grammar.{body}
+use Rattle.steps.proofs.Laws.{handed, reads-deep, reads-body, closes}
 use Rattle.ends.proofs.no_type.Goals as goal
 
-pub returns-then-depth-eq0 : goal.returns-then-depth-eq0
-returns-then-depth-eq0 c = λ s names types. reads-deep c.if-depth-eq0.true c.refused.ensures
+pub returns-in_err-open : goal.returns-in_err-open
+returns-in_err-open c = reads-deep c.open.ensures c.in_err-open.was (handed c.from_residual.ensures)
 
 pub returns : goal.returns
 unfolding body
-returns c = λ s names types. reads-body c.if-depth-eq0.false c.opened.ensures (closes c.shut_leaf.ensures refl refl)
+returns c = reads-body c.open.ensures c.in_ok-open.was (closes c.shut_leaf.ensures refl refl)

@@ -1,11 +1,20 @@
 -- Assumes nothing.
-use Rattle.steps.proofs.Laws.{follows-found, follows-refused}
-use Rattle.steps.proofs.More.{does-here}
-use Rattle.ends.proofs.Names.{follows-there, does-kept}
+use Prim.Native.Nat.{◌-◌, ◌<◌, ◌≤◌}
+use native.Mathlib.Omega.{arith}
+use borrow.Author.Tests.{lt-ltb, le-ltb}
+use Rattle.steps.proofs.Laws.{does-keeps}
+use Rattle.steps.proofs.More.{does-here, does-given, does-chosen, does-other}
+use Rattle.ends.proofs.param_end.Goals.{then-from-st, else-from-st}
 use Rattle.ends.proofs.param_end.Goals as goal
 
-pub returns-in-Node : goal.returns-in-Node
-returns-in-Node c = λ names d. follows-found c.in-Node.is (does-here (does-kept (c.kept.ensures names) (follows-there c.found.ensures (c.placed.ensures _ _ _ _))))
-
-pub returns-in-Refused : goal.returns-in-Refused
-returns-in-Refused c = λ names d. follows-refused c.in-Refused.is
+pub returns : goal.returns
+returns c =
+    λ d. does-here (elim c.if-from-st.branch [
+        then-from-st w ↦
+          let h : 1 < c.args.st.now.at - c.args.from = omega arith in
+          does-chosen (lt-ltb _ _ h) (does-keeps (rw w.st-is w.memorize_type.ensures) (c.place.ensures d)) |
+        else-from-st w ↦
+          let h : c.args.st.now.at - c.args.from ≤ 1 = omega arith in
+          let k = c.place.ensures d in
+          does-other (le-ltb _ _ h) (does-given (rw w.st-is at k))
+      ])

@@ -1,22 +1,16 @@
 -- Assumes nothing.
-use Rattle.steps.proofs.Laws.{does-sub, sub-refused, does-follows, does-part, closing-node, follows-tops}
-use mathlib.Core.Path.{refl, ◌∙◌}
 use Rattle.grammar.specs.Grammar.{parse_of}
+use Rattle.steps.proofs.Laws.{handed, does-part, does-sub, sub-refused}
 use Rattle.ends.proofs.parse_md5.Goals as goal
 
-pub md5_symbol-g-requires : goal.md5_symbol-g-requires
-md5_symbol-g-requires c = c.requires
-
-pub shape_of-t-in-Node : goal.shape_of-t-in-Node
-shape_of-t-in-Node c = c.parsed.auto.t ∙ c.no_type-h.auto.t ∙ c.md5_symbol-g.auto.t
-
-pub returns-in-Node : goal.returns-in-Node
+pub returns-in_err-n : goal.returns-in_err-n
 unfolding parse_of
-returns-in-Node c = λ names types. does-sub (does-part (c.md5_symbol-g.ensures names types)) c.in-Node.is (does-follows (does-part (c.no_type-h.ensures _ names types)) (follows-tops c.parsed.ensures (λ n. closing-node refl refl)))
+returns-in_err-n c = sub-refused (does-part c.md5_symbol.ensures) c.in_err-n.was (handed c.from_residual.ensures)
 
-pub shape_of-t-in-Refused : goal.shape_of-t-in-Refused
-shape_of-t-in-Refused c = c.md5_symbol-g.auto.t
-
-pub returns-in-Refused : goal.returns-in-Refused
+pub returns-in_err-ty : goal.returns-in_err-ty
 unfolding parse_of
-returns-in-Refused c = λ names types. sub-refused (does-part (c.md5_symbol-g.ensures names types)) c.in-Refused.is
+returns-in_err-ty c = does-sub (does-part c.md5_symbol.ensures) c.in_ok-n.was (sub-refused (does-part c.no_type.ensures) c.in_err-ty.was (handed c.from_residual-in_err-ty.ensures))
+
+pub returns : goal.returns
+unfolding parse_of
+returns c = does-sub (does-part c.md5_symbol.ensures) c.in_ok-n.was (does-sub (does-part c.no_type.ensures) c.in_ok-ty.was (c.parsed.ensures _))

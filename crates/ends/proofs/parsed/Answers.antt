@@ -1,9 +1,7 @@
 -- Assumes nothing.
-use Rattle.steps.proofs.Cells.{tops-found, tops-refused}
+use mathlib.Core.Path.{refl}
+use Rattle.steps.proofs.Laws.{closes}
 use Rattle.ends.proofs.parsed.Goals as goal
 
-pub returns-in-Node : goal.returns-in-Node
-returns-in-Node c = tops-found c.in-Node.is c.made.ensures c.shut.ensures.shuts
-
-pub returns-in-Refused : goal.returns-in-Refused
-returns-in-Refused c = tops-refused c.in-Refused.is
+pub returns : goal.returns
+returns c = λ d. closes c.shut.ensures.shuts (rw (c.to-a.ensures, c.to-b.ensures)) refl
