@@ -7,7 +7,7 @@
 //   func, mptr, tail   read_func_type, read_member_function_pointer, and how both end
 //   rett, strt         a return, and read_func_return_type: that of a structor
 //   array, dims, elem  read_array, read_nested_array, an array's element
-//   fparams, params    read_func_params, read_params; param is one of them
+//   fparams, params    read_func_params, read_params; plist is one void or parameters, param is one of them
 //   scope, sname       read_scope, and one of its names
 //   name, tmpl         read_name, read_template_name
 //   unq, unqn          read_unqualified_name, and as it is called: a digit opens no part
@@ -31,10 +31,11 @@ ghost use Rattle.steps.specs.Does.{Does, Reads};
 ghost use Rattle.shapes.specs.Shapes.{shape_type, shape_symbol, tail_of, returned};
 ghost use Rattle.shapes.specs.declared.types.Shape.TheVariants.{Named, Pointing, ToFunction};
 ghost use Rattle.shapes.specs.declared.symbols.SymbolShape.TheVariants.{Variable};
-ghost use Rattle.ends.specs.Ends.{scope_name};
+ghost use Rattle.ends.specs.Ends.{void_or_params, scope_name};
 
 use ends::{
-    is_guard, leaf_name, list_end, list_stops, literal_part, no_type, param_end, parse_md5, parsed,
+    array_end, is_guard, leaf_name, list_end, list_stops, literal_part, no_type, param_end,
+    parse_md5, parsed,
 };
 use forms::begins::ParseForm;
 use grammar::{Refusal, State};
@@ -239,15 +240,14 @@ fn dims(
 ) -> Result<(u16, u32), Refusal>
     ensures { Does r.entry depth (dimensions dimension) st.old t.old result st.new t.new }
 {
-    let q = r.number(st)?;
-    let (n, class) = if dimension <= 1 {
-        elem(r, t, st, depth)?
-    } else {
-        let left = r.open(st, depth)?;
-        dims(r, t, st, left, dimension - 1)?
-    };
-    let a = r.above(t, st, n, kinds::ARRAY, class, q)?;
-    Ok((a, class))
+    let len = r.number(st)?;
+    if dimension <= 1 {
+        let inner = elem(r, t, st, depth)?;
+        return array_end(r, t, st, inner, len);
+    }
+    let left = r.open(st, depth)?;
+    let inner = dims(r, t, st, left, dimension - 1)?;
+    array_end(r, t, st, inner, len)
 }
 
 // An array's element, with its class.
@@ -265,14 +265,21 @@ fn elem(r: Reader, t: &mut [u32], st: &mut State, depth: u16) -> Result<(u16, u3
 fn fparams(r: Reader, t: &mut [u32], st: &mut State, depth: u16) -> Result<u16, Refusal>
     ensures { Does r.entry depth func_params st.old t.old result st.new t.new }
 {
-    let l = if scan::cursor::consume(b"X", r.s, st.at as usize) {
-        let n = literal_part(r, t, st, depth, b"X", kinds::VOID, 0)?;
-        r.place(t, st, n, kinds::TYPE_PLACE, 0)?
-    } else {
-        params(r, t, st, depth)?
-    };
+    let l = plist(r, t, st, depth)?;
     r.expect(st, b"Z")?;
     Ok(l)
+}
+
+// One void, or parameters.
+#[cycle(readers)]
+fn plist(r: Reader, t: &mut [u32], st: &mut State, depth: u16) -> Result<u16, Refusal>
+    ensures { Does r.entry depth void_or_params st.old t.old result st.new t.new }
+{
+    if scan::cursor::consume(b"X", r.s, st.at as usize) {
+        let n = literal_part(r, t, st, depth, b"X", kinds::VOID, 0)?;
+        return r.place(t, st, n, kinds::TYPE_PLACE, 0);
+    }
+    params(r, t, st, depth)
 }
 
 // read_params
@@ -295,13 +302,17 @@ fn params(r: Reader, t: &mut [u32], st: &mut State, depth: u16) -> Result<u16, R
 fn param(r: Reader, t: &mut [u32], st: &mut State, depth: u16, last: u16) -> Result<u16, Refusal>
     ensures { Does r.entry depth (digit (stored_param last) (new_param last)) st.old t.old result st.new t.new }
 {
-    let from = st.at;
-    if let Some(i) = r.digit(st) {
-        let n = type_of(st, i)?;
-        return r.place(t, st, n, kinds::TYPE_PLACE, last);
+    match r.digit(st) {
+        Some(i) => {
+            let n = type_of(st, i)?;
+            r.place(t, st, n, kinds::TYPE_PLACE, last)
+        }
+        None => {
+            let from = st.at;
+            let n = vtype(r, t, st, depth, 0)?;
+            param_end(r, t, st, n, from, last)
+        }
     }
-    let n = vtype(r, t, st, depth, 0)?;
-    param_end(r, t, st, n, from, last)
 }
 
 // read_scope

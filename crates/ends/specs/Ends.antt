@@ -1,11 +1,11 @@
 -- The ends of productions, and parts of a program that is no tag's. Assumes nothing: these are definitions.
 use Rattle.std.specs.Prelude.{ℕ, zero, suc, ◌-◌, ◌≡◌, List, [], ◌∷◌, Bool, true, false, length, drop, leb, ltb, Result}
 use Rattle.scan.specs.Bytes.{pick, bytes, starts}
-use Rattle.grammar.specs.Program.{ret, fail, look, when, skip, node, found, refused, Out, out}
+use Rattle.grammar.specs.Program.{ret, fail, look, when, skip, part, node, found, refused, Out, out}
 use Rattle.grammar.specs.Counts.{opened}
-use Rattle.grammar.specs.Words.{◌>>=◌, ◌>>◌, here, memorize_name, memorize_type}
-use Rattle.node.specs.Kind.{NamePlace, TypePlace}
-use Rattle.grammar.specs.Grammar.{Reading, place, nested_name}
+use Rattle.grammar.specs.Words.{◌>>=◌, ◌>>◌, ◌↝◌∥◌, here, memorize_name, memorize_type}
+use Rattle.node.specs.Kind.{NamePlace, TypePlace, Array}
+use Rattle.grammar.specs.Grammar.{Reading, NoParams, close, place, to, nested_name, params}
 use Rattle.grammar.specs.declared.State.{State}
 use Rattle.grammar.specs.declared.Refusal.{Refusal}
 use Rattle.grammar.specs.declared.Refusal.TheVariants.{Deep}
@@ -41,6 +41,20 @@ param_end from last t = do
   end ← here
   kept_type from end t
   place TypePlace t last
+
+-- an array of a length over what was found, with the class of its element
+abbrev pub array_end : ℕ → ℕ × ℕ → Reading (ℕ × ℕ)
+array_end len inner = do
+  n ← close Array (inner.1 ∷ len ∷ []) (to inner.0 ∷ [])
+  ret (n, inner.1)
+
+-- the inside of a list of parameters: one void, or types
+abbrev pub void_or_params : Reading ℕ
+void_or_params =
+    "X" ↝ (do
+      t ← part NoParams ret
+      place TypePlace t 0) ∥
+    params
 
 abbrev pub scope_name : ℕ → Reading ℕ
 scope_name last = do

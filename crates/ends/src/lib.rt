@@ -6,7 +6,7 @@ ghost use Rattle.grammar.specs.Table.{laid};
 ghost use Rattle.grammar.specs.Grammar.{NoType, MdFive, OuterMd5, parse_of, list_end, is_guard, parsed};
 ghost use Rattle.forms.specs.declared.begins.ParseForm.TheVariants.{Md5};
 ghost use Rattle.steps.specs.Does.{Does, Reads};
-ghost use Rattle.ends.specs.Ends.{Opens, leaf_name, literal_of, list_stops, param_end};
+ghost use Rattle.ends.specs.Ends.{Opens, leaf_name, literal_of, list_stops, param_end, array_end};
 
 use grammar::{Refusal, State};
 use node::{Node, kinds};
@@ -97,7 +97,17 @@ pub fn parsed(
     let a = to(symbol);
     let b = to(ty);
     let p = index;
-    r.shut(t, st, Node { kind, a, b, p, ..BLANK })
+    r.shut(
+        t,
+        st,
+        Node {
+            kind,
+            a,
+            b,
+            p,
+            ..BLANK
+        },
+    )
 }
 
 // parse behind `??@`.
@@ -153,4 +163,19 @@ pub fn param_end(
         r.memorize_type(t, st, n);
     }
     r.place(t, st, n, kinds::TYPE_PLACE, last)
+}
+
+// An array of a length over what was found, with the class of its element.
+pub fn array_end(
+    r: Reader,
+    t: &mut [u32],
+    st: &mut State,
+    inner: (u16, u32),
+    len: u32,
+) -> Result<(u16, u32), Refusal>
+    ensures { (d : ℕ) → Does r.entry d (array_end len inner) st.old t.old result st.new t.new }
+{
+    let (n, class) = inner;
+    let a = r.above(t, st, n, kinds::ARRAY, class, len)?;
+    Ok((a, class))
 }

@@ -2,839 +2,493 @@
 -- Assumes nothing.
 use Prim.Native.Nat.{◌-◌}
 use borrow.Author.Tests.{ne_eqb, le-leb, lt-leb}
-use Rattle.grammar.specs.Grammar.{array, body, Dimension, dimensions, element, NoParams, func_params, member_function_pointer, name_body, stored_param, new_param, parse_of, GuardType, pointee, NoReturn, func_return_type, template_name, Func, stored}
-use Rattle.steps.proofs.Laws.{does-value, value-bad, does-follows, does-part, reads-body, does-beside, on-there, on-absent, does-leads, does-sub, sub-refused, reads-deep, closing-node, follows-tops, does-fail, does-finds, on-digit, no_digit, expects, expects-bad, does-class, closes, unguarded, on-reference, no-reference}
-use Rattle.steps.proofs.More.{does-sized, does-refuse, does-pass, does-as, nested-last, nested-more, nested-deep, does-first, does-assoc, does-here, does-guard, does-memo, does-set, part-deep}
-use native.Mathlib.Omega.{arith}
 use mathlib.Core.Path.{◌∙◌, refl, sym, ap}
-use Rattle.steps.specs.Does.{sized, plain}
 use mathlib.Core.List.{[], ◌∷◌}
-use Rattle.ends.proofs.Parts.{reads-opens}
-use Rattle.shapes.specs.Shapes.{shape_name, returned, shape_special, shape_symbol, shape_type, shape_unqualified}
-use Rattle.grammar.specs.Words.{name_of}
-use Rattle.ends.proofs.Lists.{params-starts, params-ends, params-goes, params-out, scope-starts, scope_ends, scope-goes, scope-out}
 use mathlib.Core.Bool.{Bool}
-use Rattle.shapes.proofs.Tails.{head-good, head-bad}
+use native.Mathlib.Omega.{arith}
+use Rattle.std.specs.Prelude.{Ok}
+use Rattle.grammar.specs.Words.{name_of}
+use Rattle.grammar.specs.Grammar.{array, body, Dimension, dimensions, element, NoParams, func_params, member_function_pointer, name_body, stored_param, new_param, parse_of, GuardType, pointee, NoReturn, func_return_type, template_name, stored}
+use Rattle.steps.proofs.Laws.{handed, does-ret, does-sub, sub-refused, does-part, does-finds, does-keeps, does-value, value-bad, values-expect, on-there, on-absent, on-digit, no_digit, on-reference, no-reference, opens-less, reads-deep, reads-body, closes}
+use Rattle.steps.proofs.More.{does-as, does-leads, leads-refused, does-here, does-memo, does-set, does-inner, does-given, does-chosen, does-other, does-refuse, does-pass, nested-last, nested-more}
+use Rattle.ends.proofs.Parts.{reads-opens}
+use Rattle.ends.proofs.Lists.{params-starts, params-ends, params-goes, params-out, scope-starts, scope_ends, scope-goes, scope-out}
+use Rattle.shapes.specs.Shapes.{returned}
 use Rattle.cycle.proofs.+readers.Goals as goal
 
-pub array-number-k-requires : goal.array-number-k-requires
-array-number-k-requires t c = c.requires
+pub vtype-returns-in-Some : goal.vtype-returns-in-Some
+vtype-returns-in-Some t c = on-reference c.args.sc c.reference.ensures c.in-Some.is (does-finds c.type_of.ensures)
 
-pub array-returns-then-n-eq0 : goal.array-returns-then-n-eq0
-unfolding array
-array-returns-then-n-eq0 t c = does-value c.number-k.ensures c.in-Is.is (does-refuse (rw c.if-n-eq0.true) c.refused.ensures)
+pub vtype-returns-in-None : goal.vtype-returns-in-None
+vtype-returns-in-None t c = no-reference c.args.sc c.reference.ensures c.in-None.is (does-part c.ty.ensures)
 
-pub array-returns-then-n-ge2147483648 : goal.array-returns-then-n-ge2147483648
-unfolding array
-array-returns-then-n-ge2147483648 t c = does-value c.number-k.ensures c.in-Is.is (does-refuse (rw (ne_eqb _ _ c.if-n-eq0.false, le-leb _ _ c.if-n-ge2147483648.true)) c.refused-then-n-ge2147483648.ensures)
+pub ty-returns-in_err-left : goal.ty-returns-in_err-left
+ty-returns-in_err-left t c = reads-deep c.open.ensures c.in_err-left.was (handed c.from_residual.ensures)
 
-pub array-dims-requires : goal.array-dims-requires
-array-dims-requires t c = (omega (arith, c.decreases), c.requires)
+pub ty-returns-in_err-type_shape : goal.ty-returns-in_err-type_shape
+unfolding body
+ty-returns-in_err-type_shape t c = reads-body c.open.ensures c.in_ok-left.was (leads-refused c.type_shape.ensures c.in_err-type_shape.was (handed c.from_residual-in_err-type_shape.ensures))
 
-pub array-shape_of-t : goal.array-shape_of-t
-array-shape_of-t t c = c.dims.auto.t
+pub ty-returns-in-Named : goal.ty-returns-in-Named
+unfolding body
+ty-returns-in-Named t c = reads-body c.open.ensures c.in_ok-left.was (does-leads c.type_shape.ensures (c.in_ok-type_shape.was ∙ ap Ok c.in-Named.is) c.named.ensures)
 
-pub array-returns-else-n-ge2147483648 : goal.array-returns-else-n-ge2147483648
-unfolding array
-array-returns-else-n-ge2147483648 t c = does-value c.number-k.ensures c.in-Is.is (does-pass (rw (ne_eqb _ _ c.if-n-eq0.false, lt-leb _ _ c.if-n-ge2147483648.false)) (does-sized c.dims.ensures))
+pub ty-returns-in-Pointing : goal.ty-returns-in-Pointing
+unfolding body
+ty-returns-in-Pointing t c = reads-body c.open.ensures c.in_ok-left.was (does-leads c.type_shape.ensures (c.in_ok-type_shape.was ∙ ap Ok c.in-Pointing.is) c.point.ensures)
 
-pub array-returns-in-Bad : goal.array-returns-in-Bad
-unfolding array
-array-returns-in-Bad t c = value-bad c.number-k.ensures c.in-Bad.is c.refused-in-Bad.ensures
+pub ty-returns-in-ToFunction : goal.ty-returns-in-ToFunction
+unfolding body
+ty-returns-in-ToFunction t c = reads-body c.open.ensures c.in_ok-left.was (does-leads c.type_shape.ensures (c.in_ok-type_shape.was ∙ ap Ok c.in-ToFunction.is) c.tofn.ensures)
 
-pub dims-number-k-requires : goal.dims-number-k-requires
-dims-number-k-requires t c = c.requires
+pub ty-returns-in-Member : goal.ty-returns-in-Member
+unfolding body
+ty-returns-in-Member t c = reads-body c.open.ensures c.in_ok-left.was (does-leads c.type_shape.ensures (c.in_ok-type_shape.was ∙ ap Ok c.in-Member.is) c.mptr.ensures)
 
-pub dims-elem-g-requires : goal.dims-elem-g-requires
-dims-elem-g-requires t c = (omega (arith, c.decreases), c.requires)
+pub ty-returns-in-Function : goal.ty-returns-in-Function
+unfolding body
+ty-returns-in-Function t c = reads-body c.open.ensures c.in_ok-left.was (does-leads c.type_shape.ensures (c.in_ok-type_shape.was ∙ ap Ok c.in-Function.is) c.func.ensures)
 
-pub dims-shape_of-t-then-dimension-le1 : goal.dims-shape_of-t-then-dimension-le1
-dims-shape_of-t-then-dimension-le1 t c = c.array_end.auto.t ∙ c.elem-g.auto.t
+pub ty-returns-in-Array : goal.ty-returns-in-Array
+unfolding body
+ty-returns-in-Array t c = reads-body c.open.ensures c.in_ok-left.was (does-leads c.type_shape.ensures (c.in_ok-type_shape.was ∙ ap Ok c.in-Array.is) c.array.ensures)
 
-pub dims-returns-then-dimension-le1 : goal.dims-returns-then-dimension-le1
-unfolding dimensions
-dims-returns-then-dimension-le1 t c = does-value c.number-k.ensures c.in-Is.is (does-follows (does-as (nested-last c.args.dimension c.if-dimension-le1.true) c.elem-g.ensures) (c.array_end.ensures _ _ _ _))
+pub ty-returns-in-Leaf : goal.ty-returns-in-Leaf
+unfolding body
+ty-returns-in-Leaf t c = reads-body c.open.ensures c.in_ok-left.was (does-leads c.type_shape.ensures (c.in_ok-type_shape.was ∙ ap Ok c.in-Leaf.is) (closes c.shut_leaf.ensures refl refl))
 
-pub dims-returns-then-depth-eq0 : goal.dims-returns-then-depth-eq0
-unfolding dimensions
-dims-returns-then-depth-eq0 t c = does-value c.number-k.ensures c.in-Is.is (nested-deep c.args.dimension c.if-dimension-le1.false c.if-depth-eq0.true c.refused.ensures)
-
-pub dims-dims-g-requires : goal.dims-dims-g-requires
-dims-dims-g-requires t c = (omega (arith, c.decreases, c.if-depth-eq0.false), c.requires)
-
-pub dims-shape_of-t : goal.dims-shape_of-t
-dims-shape_of-t t c = c.array_end-in-Is.auto.t ∙ c.dims-g.auto.t
-
-pub dims-returns-else-depth-eq0 : goal.dims-returns-else-depth-eq0
-unfolding dimensions body
-dims-returns-else-depth-eq0 t c = does-value c.number-k.ensures c.in-Is.is (does-follows (does-as (nested-more c.args.dimension c.if-dimension-le1.false) (does-part {tag = Dimension (c.args.dimension - 1)} {v = sized} (reads-body c.if-depth-eq0.false c.opened.ensures c.dims-g.ensures))) (c.array_end-in-Is.ensures _ _ _ _))
-
-pub dims-returns-in-Bad : goal.dims-returns-in-Bad
-unfolding dimensions
-dims-returns-in-Bad t c = value-bad c.number-k.ensures c.in-Bad.is c.refused-in-Bad.ensures
-
-pub elem-element_class-c-requires : goal.elem-element_class-c-requires
-elem-element_class-c-requires t c = c.requires
-
-pub elem-vtype-g-requires : goal.elem-vtype-g-requires
-elem-vtype-g-requires t c = (omega (arith, c.decreases), c.requires)
-
-pub elem-shape_of-t : goal.elem-shape_of-t
-elem-shape_of-t t c = c.vtype-g.auto.t
-
-pub elem-returns-in-Is : goal.elem-returns-in-Is
-unfolding element
-elem-returns-in-Is t c = does-value c.element_class-c.ensures c.in-Is.is (does-beside c.vtype-g.ensures c.beside.ensures)
-
-pub elem-returns-in-Bad : goal.elem-returns-in-Bad
-unfolding element
-elem-returns-in-Bad t c = value-bad c.element_class-c.ensures c.in-Bad.is c.refused.ensures
-
-pub fparams-literal_part-x-requires : goal.fparams-literal_part-x-requires
-fparams-literal_part-x-requires t c = c.requires
-
-pub fparams-ended-requires : goal.fparams-ended-requires
-fparams-ended-requires t c = c.requires
-
-pub fparams-shape_of-t-then-consume : goal.fparams-shape_of-t-then-consume
-fparams-shape_of-t-then-consume t c = c.placed-l.auto.t ∙ c.literal_part-x.auto.t
-
-pub fparams-returns-then-consume : goal.fparams-returns-then-consume
-unfolding func_params body
-fparams-returns-then-consume t c = does-follows (on-there "X" (sym c.consume.ensures ∙ c.if-consume.true) (does-follows (does-part (reads-opens NoParams (c.literal_part-x.ensures (0 ∷ []) _ _ refl))) (c.placed-l.ensures _ _ _ _))) (c.ended.ensures _ _ _ _)
-
-pub fparams-params-g-requires : goal.fparams-params-g-requires
-fparams-params-g-requires t c = (omega (arith, c.decreases), c.requires)
-
-pub fparams-ended-requires-2 : goal.fparams-ended-requires-2
-fparams-ended-requires-2 t c = c.requires
-
-pub fparams-shape_of-t : goal.fparams-shape_of-t
-fparams-shape_of-t t c = c.params-g.auto.t
-
-pub fparams-returns : goal.fparams-returns
-unfolding func_params
-fparams-returns t c = does-follows (on-absent "X" (sym c.consume.ensures ∙ c.if-consume.false) c.params-g.ensures) (c.ended-2.ensures _ _ _ _)
-
-pub func-function_head-requires : goal.func-function_head-requires
-func-function_head-requires t c = c.requires
-
-pub func-tail-requires : goal.func-tail-requires
-func-tail-requires t c = (omega (arith, c.decreases), c.requires)
-
-pub func-shape_of-t : goal.func-shape_of-t
-func-shape_of-t t c = c.tail.auto.t
-
-pub func-returns : goal.func-returns
-func-returns t c = does-leads c.function_head.ensures c.tail.ensures
-
-pub mptr-name-g-requires : goal.mptr-name-g-requires
-mptr-name-g-requires t c = (omega (arith, c.decreases), c.requires)
-
-pub mptr-pointer_head-requires : goal.mptr-pointer_head-requires
-mptr-pointer_head-requires t c = c.requires
-
-pub mptr-tail-requires : goal.mptr-tail-requires
-mptr-tail-requires t c = (omega (arith, c.decreases), c.requires)
-
-pub mptr-shape_of-t-in-Node : goal.mptr-shape_of-t-in-Node
-mptr-shape_of-t-in-Node t c = c.tail.auto.t ∙ c.name-g.auto.t
-
-pub mptr-returns-in-Node : goal.mptr-returns-in-Node
-unfolding member_function_pointer
-mptr-returns-in-Node t c = does-sub (does-first (does-part c.name-g.ensures)) c.in-Node.is (does-leads c.pointer_head.ensures c.tail.ensures)
-
-pub mptr-shape_of-t-in-Refused : goal.mptr-shape_of-t-in-Refused
-mptr-shape_of-t-in-Refused t c = c.name-g.auto.t
-
-pub mptr-returns-in-Refused : goal.mptr-returns-in-Refused
-unfolding member_function_pointer
-mptr-returns-in-Refused t c = sub-refused (does-first (does-part c.name-g.ensures)) c.in-Refused.is
-
-pub name-returns-then-depth-eq0 : goal.name-returns-then-depth-eq0
-name-returns-then-depth-eq0 t c = reads-deep c.if-depth-eq0.true c.refused.ensures
-
-pub name-unqn-g-requires : goal.name-unqn-g-requires
-name-unqn-g-requires t c = (omega (arith, c.decreases, c.if-depth-eq0.false), c.requires)
-
-pub name-scope-l-requires : goal.name-scope-l-requires
-name-scope-l-requires t c = (omega (arith, c.decreases, c.if-depth-eq0.false), c.requires)
-
-pub name-shape_of-t-in-Node : goal.name-shape_of-t-in-Node
-name-shape_of-t-in-Node t c = c.over-k.auto.t ∙ c.scope-l.auto.t ∙ c.unqn-g.auto.t
-
-pub name-returns-in-Node : goal.name-returns-in-Node
-unfolding body name_body
-name-returns-in-Node t c = reads-body c.if-depth-eq0.false c.opened.ensures (does-sub c.unqn-g.ensures c.in-Node.is (does-assoc (does-beside (does-follows c.scope-l.ensures (follows-tops c.over-k.ensures (λ l. closing-node (rw c.made.ensures) refl))) c.beside.ensures)))
-
-pub name-shape_of-t-in-Refused : goal.name-shape_of-t-in-Refused
-name-shape_of-t-in-Refused t c = c.unqn-g.auto.t
-
-pub name-returns-in-Refused : goal.name-returns-in-Refused
-unfolding body name_body
-name-returns-in-Refused t c = reads-body c.if-depth-eq0.false c.opened.ensures (sub-refused c.unqn-g.ensures c.in-Refused.is)
-
-pub named-name-g-requires : goal.named-name-g-requires
-named-name-g-requires t c = (omega (arith, c.decreases), c.requires)
-
-pub named-shape_of-t : goal.named-shape_of-t
-named-shape_of-t t c = c.above.auto.t ∙ c.name-g.auto.t
+pub named-returns-in_err-n : goal.named-returns-in_err-n
+named-returns-in_err-n t c = does-inner (sub-refused (does-part c.name.ensures) c.in_err-n.was (handed c.from_residual.ensures))
 
 pub named-returns : goal.named-returns
-named-returns t c = does-follows (does-first (does-part c.name-g.ensures)) (follows-tops c.above.ensures (λ n. closing-node refl refl))
-
-pub nested-returns-then-depth-eq0 : goal.nested-returns-then-depth-eq0
-nested-returns-then-depth-eq0 t c = reads-deep c.if-depth-eq0.true c.refused.ensures
-
-pub nested-name_shape-k-requires : goal.nested-name_shape-k-requires
-nested-name_shape-k-requires t c = c.requires
-
-pub nested-parse-g-requires : goal.nested-parse-g-requires
-nested-parse-g-requires t c = (omega (arith, c.decreases, c.if-depth-eq0.false), c.requires)
-
-pub nested-tmpl-g-requires : goal.nested-tmpl-g-requires
-nested-tmpl-g-requires t c = (omega (arith, c.decreases, c.if-depth-eq0.false), c.requires)
-
-pub nested-returns-in-Stored : goal.nested-returns-in-Stored
-unfolding body
-nested-returns-in-Stored t c = reads-body c.if-depth-eq0.false c.opened.ensures (does-leads c.name_shape-k.ensures (does-as (ap shape_name c.in-Stored.is) (does-finds (c.name_of.ensures _ _))))
-
-pub nested-shape_of-t-in-Parsed : goal.nested-shape_of-t-in-Parsed
-nested-shape_of-t-in-Parsed t c = c.above.auto.t ∙ c.parse-g.auto.t
-
-pub nested-returns-in-Parsed : goal.nested-returns-in-Parsed
-unfolding body
-nested-returns-in-Parsed t c = reads-body c.if-depth-eq0.false c.opened.ensures (does-leads c.name_shape-k.ensures (does-as (ap shape_name c.in-Parsed.is) (does-follows (does-part c.parse-g.ensures) (follows-tops c.above.ensures (λ n. closing-node refl refl)))))
-
-pub nested-shape_of-t-in-Template : goal.nested-shape_of-t-in-Template
-nested-shape_of-t-in-Template t c = c.tmpl-g.auto.t
-
-pub nested-returns-in-Template : goal.nested-returns-in-Template
-unfolding body
-nested-returns-in-Template t c = reads-body c.if-depth-eq0.false c.opened.ensures (does-leads c.name_shape-k.ensures (does-as (ap shape_name c.in-Template.is) (does-follows c.tmpl-g.ensures (c.memorized.ensures _ _ _ _))))
-
-pub nested-shape_of-t-in-Leaf : goal.nested-shape_of-t-in-Leaf
-nested-shape_of-t-in-Leaf t c = c.leaf_name.auto.t
-
-pub nested-returns-in-Leaf : goal.nested-returns-in-Leaf
-unfolding body
-nested-returns-in-Leaf t c = reads-body c.if-depth-eq0.false c.opened.ensures (does-leads c.name_shape-k.ensures (does-as (ap shape_name c.in-Leaf.is) (c.leaf_name.ensures _ _)))
-
-pub nested-returns-in-Refused : goal.nested-returns-in-Refused
-unfolding body
-nested-returns-in-Refused t c = reads-body c.if-depth-eq0.false c.opened.ensures (does-leads c.name_shape-k.ensures (does-as (ap shape_name c.in-Refused.is) (does-fail c.refused-in-Refused.ensures)))
-
-pub nname-digit-d-requires : goal.nname-digit-d-requires
-nname-digit-d-requires t c = c.requires
-
-pub nname-nested-requires : goal.nname-nested-requires
-nname-nested-requires t c = (omega (arith, c.decreases), c.requires)
-
-pub nname-returns-in-Is : goal.nname-returns-in-Is
-nname-returns-in-Is t c = on-digit name_of c.digit-d.ensures c.in-Is.is (does-finds (c.name_of.ensures _ _))
-
-pub nname-shape_of-t : goal.nname-shape_of-t
-nname-shape_of-t t c = c.nested.auto.t
-
-pub nname-returns-in-Bad : goal.nname-returns-in-Bad
-nname-returns-in-Bad t c = no_digit name_of c.digit-d.ensures c.in-Bad.is (does-part c.nested.ensures)
-
-pub oguard-returns-then-depth-eq0 : goal.oguard-returns-then-depth-eq0
-oguard-returns-then-depth-eq0 t c = reads-deep c.if-depth-eq0.true c.refused.ensures
-
-pub oguard-nname-g-requires : goal.oguard-nname-g-requires
-oguard-nname-g-requires t c = (omega (arith, c.decreases, c.if-depth-eq0.false), c.requires)
-
-pub oguard-scope-l-requires : goal.oguard-scope-l-requires
-oguard-scope-l-requires t c = (omega (arith, c.decreases, c.if-depth-eq0.false), c.requires)
-
-pub oguard-shape_of-t-in-Node : goal.oguard-shape_of-t-in-Node
-oguard-shape_of-t-in-Node t c = c.over.auto.t ∙ c.scope-l.auto.t ∙ c.nname-g.auto.t
-
-pub oguard-returns-in-Node : goal.oguard-returns-in-Node
-unfolding body
-oguard-returns-in-Node t c = reads-body c.if-depth-eq0.false c.opened.ensures (does-sub c.nname-g.ensures c.in-Node.is (does-follows c.scope-l.ensures (follows-tops c.over.ensures (λ l. closing-node (rw c.made.ensures) refl))))
-
-pub oguard-shape_of-t-in-Refused : goal.oguard-shape_of-t-in-Refused
-oguard-shape_of-t-in-Refused t c = c.nname-g.auto.t
-
-pub oguard-returns-in-Refused : goal.oguard-returns-in-Refused
-unfolding body
-oguard-returns-in-Refused t c = reads-body c.if-depth-eq0.false c.opened.ensures (sub-refused c.nname-g.ensures c.in-Refused.is)
-
-pub oname-returns-then-depth-eq0 : goal.oname-returns-then-depth-eq0
-oname-returns-then-depth-eq0 t c = reads-deep c.if-depth-eq0.true c.refused.ensures
-
-pub oname-tmpl-requires : goal.oname-tmpl-requires
-oname-tmpl-requires t c = (omega (arith, c.decreases, c.if-depth-eq0.false), c.requires)
-
-pub oname-shape_of-t : goal.oname-shape_of-t
-oname-shape_of-t t c = c.tmpl.auto.t
-
-pub oname-returns : goal.oname-returns
-unfolding body
-oname-returns t c = reads-body c.if-depth-eq0.false c.opened.ensures c.tmpl.ensures
-
-pub otmpl-returns-then-depth-eq0 : goal.otmpl-returns-then-depth-eq0
-otmpl-returns-then-depth-eq0 t c = reads-deep c.if-depth-eq0.true c.refused.ensures
-
-pub otmpl-oname-g-requires : goal.otmpl-oname-g-requires
-otmpl-oname-g-requires t c = (omega (arith, c.decreases, c.if-depth-eq0.false), c.requires)
-
-pub otmpl-shape_of-t : goal.otmpl-shape_of-t
-otmpl-shape_of-t t c = c.above.auto.t ∙ c.oname-g.auto.t
-
-pub otmpl-returns : goal.otmpl-returns
-unfolding body
-otmpl-returns t c = reads-body c.if-depth-eq0.false c.opened.ensures (does-follows (does-part c.oname-g.ensures) (follows-tops c.above.ensures (λ n. closing-node refl refl)))
-
-pub param-digit-d-requires : goal.param-digit-d-requires
-param-digit-d-requires t c = c.requires
-
-pub param-vtype-g-requires : goal.param-vtype-g-requires
-param-vtype-g-requires t c = (omega (arith, c.decreases), c.requires)
-
-pub param-shape_of-t-in-Is : goal.param-shape_of-t-in-Is
-param-shape_of-t-in-Is t c = c.placed.auto.t
-
-pub param-returns-in-Is : goal.param-returns-in-Is
-unfolding stored_param
-param-returns-in-Is t c = on-digit (stored_param c.args.last) c.digit-d.ensures c.in-Is.is (does-follows (does-finds (c.type_of.ensures _ _)) (c.placed.ensures _ _ _ _))
-
-pub param-shape_of-t-in-Bad : goal.param-shape_of-t-in-Bad
-param-shape_of-t-in-Bad t c = c.param_end.auto.t ∙ c.vtype-g.auto.t
-
-pub param-returns-in-Bad : goal.param-returns-in-Bad
-unfolding new_param
-param-returns-in-Bad t c = no_digit (stored_param c.args.last) c.digit-d.ensures c.in-Bad.is (does-here (does-follows c.vtype-g.ensures (c.param_end.ensures _ _)))
-
-pub params-turns-left-requires : goal.params-turns-left-requires
-params-turns-left-requires t c = c.requires
-
-pub params-loop-left-init : goal.params-loop-left-init
-params-loop-left-init t c = (refl, λ g t' r. params-starts c.turns-left.ensures r)
-
-pub params-list_end-requires : goal.params-list_end-requires
-params-list_end-requires t c = c.requires
-
-pub params-shape_of-t-then-list_stops : goal.params-shape_of-t-then-list_stops
-params-shape_of-t-then-list_stops t c = c.list_end.auto.t ∙ c.loop-left.invariant.0
-
-pub params-returns-then-list_stops : goal.params-returns-then-list_stops
-params-returns-then-list_stops t c = c.loop-left.invariant.1 _ _ (params-ends c.loop-left.left c.loop-left.last c.loop-left-test.true c.list_stops.ensures c.if-list_stops.true (c.list_end.ensures _ _))
-
-pub params-param-g-requires : goal.params-param-g-requires
-params-param-g-requires t c = (omega (arith, c.decreases), c.requires)
-
-pub params-shape_of-t-in-Refused : goal.params-shape_of-t-in-Refused
-params-shape_of-t-in-Refused t c = c.param-g.auto.t ∙ c.loop-left.invariant.0
-
-pub params-returns-in-Refused : goal.params-returns-in-Refused
-params-returns-in-Refused t c = c.loop-left.invariant.1 _ _ (params-goes c.loop-left.left c.loop-left.last c.loop-left-test.true c.list_stops.ensures c.if-list_stops.false (sub-refused c.param-g.ensures c.in-Refused.is))
-
-pub params-loop-left-preserved : goal.params-loop-left-preserved
-params-loop-left-preserved t c = (c.param-g.auto.t ∙ c.loop-left.invariant.0, λ g t' r. c.loop-left.invariant.1 g t' (params-goes c.loop-left.left c.loop-left.last c.loop-left-test.true c.list_stops.ensures c.if-list_stops.false (does-sub c.param-g.ensures c.in-Node.is r)))
-
-pub params-shape_of-t : goal.params-shape_of-t
-params-shape_of-t t c = c.loop-left.invariant.0
-
-pub params-returns : goal.params-returns
-params-returns t c = c.loop-left.invariant.1 _ _ (params-out c.loop-left.left c.loop-left.last c.loop-left-test.false c.refused.ensures)
-
-pub parse-returns-then-depth-eq0 : goal.parse-returns-then-depth-eq0
-parse-returns-then-depth-eq0 t c = reads-deep c.if-depth-eq0.true c.refused.ensures
-
-pub parse-expect-e-requires : goal.parse-expect-e-requires
-parse-expect-e-requires t c = c.requires
-
-pub parse-pform-requires : goal.parse-pform-requires
-parse-pform-requires t c = (omega (arith, c.decreases, c.if-depth-eq0.false), c.requires)
-
-pub parse-shape_of-t : goal.parse-shape_of-t
-parse-shape_of-t t c = c.pform.auto.t
-
-pub parse-returns-in-Is : goal.parse-returns-in-Is
-unfolding body
-parse-returns-in-Is t c = reads-body c.if-depth-eq0.false c.opened.ensures (expects "?" c.expect-e.ensures c.in-Is.is c.pform.ensures)
-
-pub parse-returns-in-Bad : goal.parse-returns-in-Bad
-unfolding body
-parse-returns-in-Bad t c = reads-body c.if-depth-eq0.false c.opened.ensures (expects-bad "?" c.expect-e.ensures c.in-Bad.is c.refused-in-Bad.ensures)
-
-pub pform-parse_form-k-requires : goal.pform-parse_form-k-requires
-pform-parse_form-k-requires t c = c.requires
-
-pub pform-parse_md5-requires : goal.pform-parse_md5-requires
-pform-parse_md5-requires t c = c.requires
-
-pub pform-pguard-requires : goal.pform-pguard-requires
-pform-pguard-requires t c = (omega (arith, c.decreases), c.requires)
-
-pub pform-ptmpl-requires : goal.pform-ptmpl-requires
-pform-ptmpl-requires t c = (omega (arith, c.decreases), c.requires)
-
-pub pform-pname-requires : goal.pform-pname-requires
-pform-pname-requires t c = (omega (arith, c.decreases), c.requires)
-
-pub pform-shape_of-t-in-Md5 : goal.pform-shape_of-t-in-Md5
-pform-shape_of-t-in-Md5 t c = c.parse_md5.auto.t
-
-pub pform-returns-in-Md5 : goal.pform-returns-in-Md5
-pform-returns-in-Md5 t c = does-leads c.parse_form-k.ensures (does-as (ap parse_of c.in-Md5.is) (c.parse_md5.ensures _ _))
-
-pub pform-shape_of-t-in-Guard : goal.pform-shape_of-t-in-Guard
-pform-shape_of-t-in-Guard t c = c.pguard.auto.t
-
-pub pform-returns-in-Guard : goal.pform-returns-in-Guard
-pform-returns-in-Guard t c = does-leads c.parse_form-k.ensures (does-as (ap parse_of c.in-Guard.is) c.pguard.ensures)
-
-pub pform-shape_of-t-in-Template : goal.pform-shape_of-t-in-Template
-pform-shape_of-t-in-Template t c = c.ptmpl.auto.t
-
-pub pform-returns-in-Template : goal.pform-returns-in-Template
-pform-returns-in-Template t c = does-leads c.parse_form-k.ensures (does-as (ap parse_of c.in-Template.is) c.ptmpl.ensures)
-
-pub pform-shape_of-t-in-Name : goal.pform-shape_of-t-in-Name
-pform-shape_of-t-in-Name t c = c.pname.auto.t
-
-pub pform-returns-in-Name : goal.pform-returns-in-Name
-pform-returns-in-Name t c = does-leads c.parse_form-k.ensures (does-as (ap parse_of c.in-Name.is) c.pname.ensures)
-
-pub pguard-guard_number-k-requires : goal.pguard-guard_number-k-requires
-pguard-guard_number-k-requires t c = c.requires
-
-pub pguard-oguard-g-requires : goal.pguard-oguard-g-requires
-pguard-oguard-g-requires t c = (omega (arith, c.decreases), c.requires)
-
-pub pguard-literal_part-h-requires : goal.pguard-literal_part-h-requires
-pguard-literal_part-h-requires t c = c.requires
-
-pub pguard-shape_of-t-in-Node : goal.pguard-shape_of-t-in-Node
-pguard-shape_of-t-in-Node t c = c.parsed.auto.t ∙ c.literal_part-h.auto.t ∙ c.oguard-g.auto.t
-
-pub pguard-returns-in-Node : goal.pguard-returns-in-Node
-unfolding parse_of body
-pguard-returns-in-Node t c = does-value c.guard_number-k.ensures c.in-Is.is (does-sub (does-part c.oguard-g.ensures) c.in-Node.is (does-follows (does-part (reads-opens (GuardType _) (c.literal_part-h.ensures (_ ∷ []) _ _ refl))) (follows-tops c.parsed.ensures (λ n. closing-node refl refl))))
-
-pub pguard-shape_of-t-in-Refused : goal.pguard-shape_of-t-in-Refused
-pguard-shape_of-t-in-Refused t c = c.oguard-g.auto.t
-
-pub pguard-returns-in-Refused : goal.pguard-returns-in-Refused
-unfolding parse_of
-pguard-returns-in-Refused t c = does-value c.guard_number-k.ensures c.in-Is.is (sub-refused (does-part c.oguard-g.ensures) c.in-Refused.is)
-
-pub pguard-returns-in-Bad : goal.pguard-returns-in-Bad
-unfolding parse_of
-pguard-returns-in-Bad t c = value-bad c.guard_number-k.ensures c.in-Bad.is c.refused.ensures
-
-pub pname-name-g-requires : goal.pname-name-g-requires
-pname-name-g-requires t c = (omega (arith, c.decreases), c.requires)
-
-pub pname-guard_index-i-requires : goal.pname-guard_index-i-requires
-pname-guard_index-i-requires t c = c.requires
-
-pub pname-sym-h-requires : goal.pname-sym-h-requires
-pname-sym-h-requires t c = (omega (arith, c.decreases), c.requires)
-
-pub pname-shape_of-t-in-Is : goal.pname-shape_of-t-in-Is
-pname-shape_of-t-in-Is t c = c.parsed.auto.t ∙ c.sym-h.auto.t ∙ c.name-g.auto.t
-
-pub pname-returns-in-Is : goal.pname-returns-in-Is
-unfolding parse_of
-pname-returns-in-Is t c = does-sub (does-part c.name-g.ensures) c.in-Node.is (does-value c.guard_index-i.ensures c.in-Is.is (does-follows (does-part c.sym-h.ensures) (follows-tops c.parsed.ensures (λ n. closing-node refl refl))))
-
-pub pname-shape_of-t-in-Bad : goal.pname-shape_of-t-in-Bad
-pname-shape_of-t-in-Bad t c = c.name-g.auto.t
-
-pub pname-returns-in-Bad : goal.pname-returns-in-Bad
-unfolding parse_of
-pname-returns-in-Bad t c = does-sub (does-part c.name-g.ensures) c.in-Node.is (value-bad c.guard_index-i.ensures c.in-Bad.is c.refused.ensures)
-
-pub pname-shape_of-t-in-Refused : goal.pname-shape_of-t-in-Refused
-pname-shape_of-t-in-Refused t c = c.name-g.auto.t
-
-pub pname-returns-in-Refused : goal.pname-returns-in-Refused
-unfolding parse_of
-pname-returns-in-Refused t c = sub-refused (does-part c.name-g.ensures) c.in-Refused.is
-
-pub point-pointee_class-c-requires : goal.point-pointee_class-c-requires
-point-pointee_class-c-requires t c = c.requires
-
-pub point-vtype-g-requires : goal.point-vtype-g-requires
-point-vtype-g-requires t c = (omega (arith, c.decreases), c.requires)
-
-pub point-shape_of-t : goal.point-shape_of-t
-point-shape_of-t t c = c.above.auto.t ∙ c.vtype-g.auto.t
+named-returns t c = does-inner (does-sub (does-part c.name.ensures) c.in_ok-n.was (does-given (closes c.above.ensures refl refl)))
+
+pub point-returns-in_err-n : goal.point-returns-in_err-n
+unfolding pointee
+point-returns-in_err-n t c = does-inner (does-value c.pointee_class-sc.ensures refl (sub-refused c.vtype.ensures c.in_err-n.was (handed c.from_residual.ensures)))
 
 pub point-returns : goal.point-returns
 unfolding pointee
-point-returns t c = does-follows (does-class c.pointee_class-c.ensures c.vtype-g.ensures) (follows-tops c.above.ensures (λ n. closing-node refl refl))
+point-returns t c = does-inner (does-value c.pointee_class-sc.ensures refl (does-sub c.vtype.ensures c.in_ok-n.was (closes c.above.ensures refl refl)))
 
-pub ptmpl-otmpl-g-requires : goal.ptmpl-otmpl-g-requires
-ptmpl-otmpl-g-requires t c = (omega (arith, c.decreases), c.requires)
+pub tofn-returns-in_err-left : goal.tofn-returns-in_err-left
+tofn-returns-in_err-left t c = sub-refused (does-part (reads-deep c.open.ensures c.in_err-left.was refl)) refl (handed c.from_residual.ensures)
 
-pub ptmpl-shape_of-t-in-Node : goal.ptmpl-shape_of-t-in-Node
-ptmpl-shape_of-t-in-Node t c = c.parsed.auto.t ∙ c.no_type-h.auto.t ∙ c.otmpl-g.auto.t
+pub tofn-returns-in_err-n : goal.tofn-returns-in_err-n
+unfolding body
+tofn-returns-in_err-n t c = sub-refused (does-part (reads-body c.open.ensures c.in_ok-left.was c.func.ensures)) c.in_err-n.was (handed c.from_residual-in_err-n.ensures)
 
-pub ptmpl-returns-in-Node : goal.ptmpl-returns-in-Node
-unfolding parse_of
-ptmpl-returns-in-Node t c = does-sub (does-part c.otmpl-g.ensures) c.in-Node.is (does-follows (does-part (c.no_type-h.ensures _ _ _)) (follows-tops c.parsed.ensures (λ n. closing-node refl refl)))
+pub tofn-returns : goal.tofn-returns
+unfolding body
+tofn-returns t c = does-sub (does-part (reads-body c.open.ensures c.in_ok-left.was c.func.ensures)) c.in_ok-n.was (closes c.above.ensures refl refl)
 
-pub ptmpl-shape_of-t-in-Refused : goal.ptmpl-shape_of-t-in-Refused
-ptmpl-shape_of-t-in-Refused t c = c.otmpl-g.auto.t
+pub func-returns-in_err-x : goal.func-returns-in_err-x
+func-returns-in_err-x t c = leads-refused c.function_head.ensures c.in_err-x.was (handed c.from_residual.ensures)
 
-pub ptmpl-returns-in-Refused : goal.ptmpl-returns-in-Refused
-unfolding parse_of
-ptmpl-returns-in-Refused t c = sub-refused (does-part c.otmpl-g.ensures) c.in-Refused.is
+pub func-returns : goal.func-returns
+func-returns t c = does-leads c.function_head.ensures c.in_ok-x.was c.tail.ensures
 
-pub rett-strt-requires : goal.rett-strt-requires
-rett-strt-requires t c = (omega (arith, c.decreases), c.requires)
+pub mptr-returns-in_err-n : goal.mptr-returns-in_err-n
+unfolding member_function_pointer
+mptr-returns-in_err-n t c = does-inner (sub-refused (does-part c.name.ensures) c.in_err-n.was (handed c.from_residual.ensures))
 
-pub rett-shape_of-t-then-structor : goal.rett-shape_of-t-then-structor
-rett-shape_of-t-then-structor t c = c.strt.auto.t
+pub mptr-returns-in_err-x : goal.mptr-returns-in_err-x
+unfolding member_function_pointer
+mptr-returns-in_err-x t c = does-inner (does-sub (does-part c.name.ensures) c.in_ok-n.was (does-given (leads-refused c.pointer_head.ensures c.in_err-x.was (handed c.from_residual-in_err-x.ensures))))
+
+pub mptr-returns : goal.mptr-returns
+unfolding member_function_pointer
+mptr-returns t c = does-inner (does-sub (does-part c.name.ensures) c.in_ok-n.was (does-given (does-leads c.pointer_head.ensures c.in_ok-x.was c.tail.ensures)))
+
+pub tail-returns-in_err-n : goal.tail-returns-in_err-n
+tail-returns-in_err-n t c = sub-refused c.rett.ensures c.in_err-n.was (handed c.from_residual.ensures)
+
+pub tail-returns-in_err-l : goal.tail-returns-in_err-l
+tail-returns-in_err-l t c = does-sub c.rett.ensures c.in_ok-n.was (sub-refused c.fparams.ensures c.in_err-l.was (handed c.from_residual-in_err-l.ensures))
+
+pub tail-returns : goal.tail-returns
+tail-returns t c = does-sub c.rett.ensures c.in_ok-n.was (does-sub c.fparams.ensures c.in_ok-l.was (closes c.shut.ensures.shuts (rw (c.to.ensures, c.from.ensures)) refl))
 
 pub rett-returns-then-structor : goal.rett-returns-then-structor
 rett-returns-then-structor t c = does-as (ap (λ (b : Bool). returned b c.args.sc) c.if-structor.true) c.strt.ensures
 
-pub rett-vtype-requires : goal.rett-vtype-requires
-rett-vtype-requires t c = (omega (arith, c.decreases), c.requires)
-
-pub rett-shape_of-t : goal.rett-shape_of-t
-rett-shape_of-t t c = c.vtype.auto.t
-
 pub rett-returns : goal.rett-returns
 rett-returns t c = does-as (ap (λ (b : Bool). returned b c.args.sc) c.if-structor.false) c.vtype.ensures
 
-pub scope-turns-left-requires : goal.scope-turns-left-requires
-scope-turns-left-requires t c = c.requires
-
-pub scope-loop-left-init : goal.scope-loop-left-init
-scope-loop-left-init t c = (refl, λ g t' r. scope-starts c.turns-left.ensures r)
-
-pub scope-expect-e-requires : goal.scope-expect-e-requires
-scope-expect-e-requires t c = c.requires
-
-pub scope-shape_of-t-in-Is : goal.scope-shape_of-t-in-Is
-scope-shape_of-t-in-Is t c = c.loop-left.invariant.0
-
-pub scope-returns-in-Is : goal.scope-returns-in-Is
-scope-returns-in-Is t c = c.loop-left.invariant.1 _ _ (scope_ends c.loop-left.left c.loop-left.last c.loop-left-test.true c.expect-e.ensures c.in-Is.is c.found.ensures)
-
-pub scope-sname-g-requires : goal.scope-sname-g-requires
-scope-sname-g-requires t c = (omega (arith, c.decreases), c.requires)
-
-pub scope-shape_of-t-in-Refused : goal.scope-shape_of-t-in-Refused
-scope-shape_of-t-in-Refused t c = c.sname-g.auto.t ∙ c.loop-left.invariant.0
-
-pub scope-returns-in-Refused : goal.scope-returns-in-Refused
-scope-returns-in-Refused t c = c.loop-left.invariant.1 _ _ (scope-goes c.loop-left.left c.loop-left.last c.loop-left-test.true c.expect-e.ensures c.in-Bad.is (sub-refused c.sname-g.ensures c.in-Refused.is))
-
-pub scope-loop-left-preserved : goal.scope-loop-left-preserved
-scope-loop-left-preserved t c = (c.sname-g.auto.t ∙ c.loop-left.invariant.0, λ g t' r. c.loop-left.invariant.1 g t' (scope-goes c.loop-left.left c.loop-left.last c.loop-left-test.true c.expect-e.ensures c.in-Bad.is (does-sub c.sname-g.ensures c.in-Node.is r)))
-
-pub scope-shape_of-t : goal.scope-shape_of-t
-scope-shape_of-t t c = c.loop-left.invariant.0
-
-pub scope-returns : goal.scope-returns
-scope-returns t c = c.loop-left.invariant.1 _ _ (scope-out c.loop-left.left c.loop-left.last c.loop-left-test.false c.refused.ensures)
-
-pub sname-nname-g-requires : goal.sname-nname-g-requires
-sname-nname-g-requires t c = (omega (arith, c.decreases), c.requires)
-
-pub sname-shape_of-t : goal.sname-shape_of-t
-sname-shape_of-t t c = c.placed.auto.t ∙ c.nname-g.auto.t
-
-pub sname-returns : goal.sname-returns
-sname-returns t c = does-follows c.nname-g.ensures (c.placed.ensures _ _ _ _)
-
-pub special-special_shape-k-requires : goal.special-special_shape-k-requires
-special-special_shape-k-requires t c = c.requires
-
-pub special-vtype-g-requires : goal.special-vtype-g-requires
-special-vtype-g-requires t c = (omega (arith, c.decreases), c.requires)
-
-pub special-shape_of-t-in-Operator : goal.special-shape_of-t-in-Operator
-special-shape_of-t-in-Operator t c = c.shut_leaf.auto.t
-
-pub special-returns-in-Operator : goal.special-returns-in-Operator
-special-returns-in-Operator t c = does-leads c.special_shape-k.ensures (does-as (ap shape_special c.in-Operator.is) (does-guard c.guard_of.ensures (does-beside (closes c.shut_leaf.ensures refl refl) c.beside.ensures)))
-
-pub special-shape_of-t-in-Type : goal.special-shape_of-t-in-Type
-special-shape_of-t-in-Type t c = c.above.auto.t ∙ c.vtype-g.auto.t
-
-pub special-returns-in-Type : goal.special-returns-in-Type
-special-returns-in-Type t c = does-leads c.special_shape-k.ensures (does-as (ap shape_special c.in-Type.is) (does-beside (does-follows c.vtype-g.ensures (follows-tops c.above.ensures (λ n. closing-node refl refl))) c.beside-in-Type.ensures))
-
-pub special-shape_of-t-in-Base : goal.special-shape_of-t-in-Base
-special-shape_of-t-in-Base t c = c.shut_base.auto.t
-
-pub special-returns-in-Base : goal.special-returns-in-Base
-special-returns-in-Base t c = does-leads c.special_shape-k.ensures (does-as (ap shape_special c.in-Base.is) (does-beside (closes c.shut_base.ensures refl refl) c.beside-in-Base.ensures))
-
-pub special-returns-in-Refused : goal.special-returns-in-Refused
-special-returns-in-Refused t c = does-leads c.special_shape-k.ensures (does-as (ap shape_special c.in-Refused.is) (does-fail c.refused.ensures))
-
-pub strt-literal_part-requires : goal.strt-literal_part-requires
-strt-literal_part-requires t c = c.requires
-
-pub strt-shape_of-t-then-consume : goal.strt-shape_of-t-then-consume
-strt-shape_of-t-then-consume t c = c.literal_part.auto.t
-
 pub strt-returns-then-consume : goal.strt-returns-then-consume
 unfolding func_return_type body
-strt-returns-then-consume t c = on-there "@" (sym c.consume.ensures ∙ c.if-consume.true) (does-part (reads-opens NoReturn (c.literal_part.ensures [] _ _ refl)))
-
-pub strt-vtype-requires : goal.strt-vtype-requires
-strt-vtype-requires t c = (omega (arith, c.decreases), c.requires)
-
-pub strt-shape_of-t : goal.strt-shape_of-t
-strt-shape_of-t t c = c.vtype.auto.t
+strt-returns-then-consume t c = on-there "@" (sym c.consume.ensures ∙ c.if-consume.true) (does-part (reads-opens NoReturn (c.literal_part.ensures [] refl)))
 
 pub strt-returns : goal.strt-returns
 unfolding func_return_type
 strt-returns t c = on-absent "@" (sym c.consume.ensures ∙ c.if-consume.false) c.vtype.ensures
 
-pub sym-returns-then-depth-eq0 : goal.sym-returns-then-depth-eq0
-sym-returns-then-depth-eq0 t c = reads-deep c.if-depth-eq0.true c.refused.ensures
+pub array-returns-in_err-n : goal.array-returns-in_err-n
+unfolding array
+array-returns-in_err-n t c = value-bad c.number.ensures c.in_err-n.was (handed c.from_residual.ensures)
 
-pub sym-symbol_shape-k-requires : goal.sym-symbol_shape-k-requires
-sym-symbol_shape-k-requires t c = c.requires
+pub array-returns-then-n-eq0 : goal.array-returns-then-n-eq0
+unfolding array
+array-returns-then-n-eq0 t c = does-value c.number.ensures c.in_ok-n.was (does-refuse (rw c.if-n-eq0.true))
 
-pub sym-var-requires : goal.sym-var-requires
-sym-var-requires t c = (omega (arith, c.decreases, c.if-depth-eq0.false), c.requires)
+pub array-returns-then-n-ge2147483648 : goal.array-returns-then-n-ge2147483648
+unfolding array
+array-returns-then-n-ge2147483648 t c = does-value c.number.ensures c.in_ok-n.was (does-refuse (rw (ne_eqb _ _ c.if-n-eq0.false, le-leb _ _ c.if-n-ge2147483648.true)))
 
-pub sym-scope-g-requires : goal.sym-scope-g-requires
-sym-scope-g-requires t c = (omega (arith, c.decreases, c.if-depth-eq0.false), c.requires)
+pub array-returns-in_err-a : goal.array-returns-in_err-a
+unfolding array
+array-returns-in_err-a t c = does-value c.number.ensures c.in_ok-n.was (does-pass (rw (ne_eqb _ _ c.if-n-eq0.false, lt-leb _ _ c.if-n-ge2147483648.false)) (sub-refused c.dims.ensures c.in_err-a.was (handed c.from_residual-in_err-a.ensures)))
 
-pub sym-symbol_head-requires : goal.sym-symbol_head-requires
-sym-symbol_head-requires t c = c.requires
+pub array-returns : goal.array-returns
+unfolding array
+array-returns t c = does-value c.number.ensures c.in_ok-n.was (does-pass (rw (ne_eqb _ _ c.if-n-eq0.false, lt-leb _ _ c.if-n-ge2147483648.false)) (does-sub c.dims.ensures c.in_ok-a.was does-ret))
 
-pub sym-tail-requires : goal.sym-tail-requires
-sym-tail-requires t c = (omega (arith, c.decreases, c.if-depth-eq0.false), c.requires)
+pub dims-returns-in_err-len : goal.dims-returns-in_err-len
+unfolding dimensions
+dims-returns-in_err-len t c = value-bad c.number.ensures c.in_err-len.was (handed c.from_residual.ensures)
 
-pub sym-shape_of-t-in-Variable : goal.sym-shape_of-t-in-Variable
-sym-shape_of-t-in-Variable t c = c.var.auto.t
+pub dims-returns-in_err-inner : goal.dims-returns-in_err-inner
+unfolding dimensions
+dims-returns-in_err-inner t c = does-value c.number.ensures c.in_ok-len.was (sub-refused (does-as (nested-last c.args.dimension c.if-dimension-le1.true) c.elem.ensures) c.in_err-inner.was (handed c.from_residual-in_err-inner.ensures))
 
-pub sym-returns-in-Variable : goal.sym-returns-in-Variable
+pub dims-returns-then-dimension-le1 : goal.dims-returns-then-dimension-le1
+unfolding dimensions
+dims-returns-then-dimension-le1 t c = does-value c.number.ensures c.in_ok-len.was (does-sub (does-as (nested-last c.args.dimension c.if-dimension-le1.true) c.elem.ensures) c.in_ok-inner.was (c.array_end.ensures _))
+
+pub dims-returns-in_err-left : goal.dims-returns-in_err-left
+unfolding dimensions
+dims-returns-in_err-left t c = does-value c.number.ensures c.in_ok-len.was (sub-refused (does-as (nested-more c.args.dimension c.if-dimension-le1.false) (does-part {tag = Dimension (c.args.dimension - 1)} (reads-deep c.open.ensures c.in_err-left.was refl))) refl (handed c.from_residual-in_err-left.ensures))
+
+pub dims-returns-in_err-inner-2 : goal.dims-returns-in_err-inner-2
+unfolding dimensions body
+dims-returns-in_err-inner-2 t c = does-value c.number.ensures c.in_ok-len.was (sub-refused (does-as (nested-more c.args.dimension c.if-dimension-le1.false) (does-part {tag = Dimension (c.args.dimension - 1)} (reads-body c.open.ensures c.in_ok-left.was c.dims.ensures))) c.in_err-inner-2.was (handed c.from_residual-in_err-inner-2.ensures))
+
+pub dims-returns : goal.dims-returns
+unfolding dimensions body
+dims-returns t c = does-value c.number.ensures c.in_ok-len.was (does-sub (does-as (nested-more c.args.dimension c.if-dimension-le1.false) (does-part {tag = Dimension (c.args.dimension - 1)} (reads-body c.open.ensures c.in_ok-left.was c.dims.ensures))) c.in_ok-inner-2.was (c.array_end-in_ok-inner-2.ensures _))
+
+pub elem-returns-in_err-class : goal.elem-returns-in_err-class
+unfolding element
+elem-returns-in_err-class t c = value-bad c.element_class.ensures c.in_err-class.was (handed c.from_residual.ensures)
+
+pub elem-returns-in_err-n : goal.elem-returns-in_err-n
+unfolding element
+elem-returns-in_err-n t c = does-value c.element_class.ensures c.in_ok-class.was (sub-refused c.vtype.ensures c.in_err-n.was (handed c.from_residual-in_err-n.ensures))
+
+pub elem-returns : goal.elem-returns
+unfolding element
+elem-returns t c = does-value c.element_class.ensures c.in_ok-class.was (does-sub c.vtype.ensures c.in_ok-n.was does-ret)
+
+pub fparams-returns-in_err-l : goal.fparams-returns-in_err-l
+unfolding func_params
+fparams-returns-in_err-l t c = sub-refused c.plist.ensures c.in_err-l.was (handed c.from_residual.ensures)
+
+pub fparams-returns-in_err-expect : goal.fparams-returns-in_err-expect
+unfolding func_params
+fparams-returns-in_err-expect t c = does-sub c.plist.ensures c.in_ok-l.was (value-bad (values-expect "Z" c.expect.ensures) c.in_err-expect.was (handed c.from_residual-in_err-expect.ensures))
+
+pub fparams-returns : goal.fparams-returns
+unfolding func_params
+fparams-returns t c = does-sub c.plist.ensures c.in_ok-l.was (does-value (values-expect "Z" c.expect.ensures) c.in_ok-expect.was does-ret)
+
+pub plist-returns-in_err-n : goal.plist-returns-in_err-n
 unfolding body
-sym-returns-in-Variable t c = reads-body c.if-depth-eq0.false c.opened.ensures (does-leads c.symbol_shape-k.ensures (does-as (ap shape_symbol c.in-Variable.is) c.var.ensures))
+plist-returns-in_err-n t c = on-there "X" (sym c.consume.ensures ∙ c.if-consume.true) (sub-refused (does-part (reads-opens NoParams (c.literal_part.ensures (0 ∷ []) refl))) c.in_err-n.was (handed c.from_residual.ensures))
 
-pub sym-shape_of-t-in-Table : goal.sym-shape_of-t-in-Table
-sym-shape_of-t-in-Table t c = c.table_end.auto.t ∙ c.scope-g.auto.t
-
-pub sym-returns-in-Table : goal.sym-returns-in-Table
+pub plist-returns-then-consume : goal.plist-returns-then-consume
 unfolding body
-sym-returns-in-Table t c = reads-body c.if-depth-eq0.false c.opened.ensures (does-leads c.symbol_shape-k.ensures (does-as (ap shape_symbol c.in-Table.is) (does-follows c.scope-g.ensures (follows-tops c.table_end.ensures (λ l. closing-node refl refl)))))
+plist-returns-then-consume t c = on-there "X" (sym c.consume.ensures ∙ c.if-consume.true) (does-sub (does-part (reads-opens NoParams (c.literal_part.ensures (0 ∷ []) refl))) c.in_ok-n.was (c.place.ensures _))
 
-pub sym-shape_of-t-in-Function : goal.sym-shape_of-t-in-Function
-sym-shape_of-t-in-Function t c = c.tail.auto.t
+pub plist-returns : goal.plist-returns
+plist-returns t c = on-absent "X" (sym c.consume.ensures ∙ c.if-consume.false) c.params.ensures
 
-pub sym-returns-in-Function : goal.sym-returns-in-Function
-unfolding body
-sym-returns-in-Function t c = reads-body c.if-depth-eq0.false c.opened.ensures (does-leads c.symbol_shape-k.ensures (does-as (ap shape_symbol c.in-Function.is) (does-leads c.symbol_head.ensures c.tail.ensures)))
+pub param-returns-in_err-n : goal.param-returns-in_err-n
+unfolding stored_param
+param-returns-in_err-n t c = on-digit (stored_param c.args.last) c.digit.ensures c.in-Some.is (sub-refused (does-finds c.type_of.ensures) c.in_err-n.was (handed c.from_residual.ensures))
 
-pub sym-shape_of-t-in-Leaf : goal.sym-shape_of-t-in-Leaf
-sym-shape_of-t-in-Leaf t c = c.shut_leaf.auto.t
+pub param-returns-in-Some : goal.param-returns-in-Some
+unfolding stored_param
+param-returns-in-Some t c = on-digit (stored_param c.args.last) c.digit.ensures c.in-Some.is (does-sub (does-finds c.type_of.ensures) c.in_ok-n.was (c.place.ensures _))
 
-pub sym-returns-in-Leaf : goal.sym-returns-in-Leaf
-unfolding body
-sym-returns-in-Leaf t c = reads-body c.if-depth-eq0.false c.opened.ensures (does-leads c.symbol_shape-k.ensures (does-as (ap shape_symbol c.in-Leaf.is) (closes c.shut_leaf.ensures refl refl)))
+pub param-returns-in_err-n-2 : goal.param-returns-in_err-n-2
+unfolding new_param
+param-returns-in_err-n-2 t c = no_digit (stored_param c.args.last) c.digit.ensures c.in-None.is (does-here (sub-refused c.vtype.ensures c.in_err-n-2.was (handed c.from_residual-in_err-n-2.ensures)))
 
-pub sym-returns-in-Refused : goal.sym-returns-in-Refused
-unfolding body
-sym-returns-in-Refused t c = reads-body c.if-depth-eq0.false c.opened.ensures (does-leads c.symbol_shape-k.ensures (does-as (ap shape_symbol c.in-Refused.is) (does-fail c.refused-in-Refused.ensures)))
+pub param-returns-in-None : goal.param-returns-in-None
+unfolding new_param
+param-returns-in-None t c = no_digit (stored_param c.args.last) c.digit.ensures c.in-None.is (does-here (does-sub c.vtype.ensures c.in_ok-n-2.was (c.param_end.ensures _)))
 
-pub tail-rett-g-requires : goal.tail-rett-g-requires
-tail-rett-g-requires t c = (omega (arith, c.decreases), c.requires)
+pub sname-returns-in_err-n : goal.sname-returns-in_err-n
+sname-returns-in_err-n t c = sub-refused c.nname.ensures c.in_err-n.was (handed c.from_residual.ensures)
 
-pub tail-fparams-l-requires : goal.tail-fparams-l-requires
-tail-fparams-l-requires t c = (omega (arith, c.decreases), c.requires)
+pub sname-returns : goal.sname-returns
+sname-returns t c = does-sub c.nname.ensures c.in_ok-n.was (c.place.ensures _)
 
-pub tail-shape_of-t-in-Node : goal.tail-shape_of-t-in-Node
-tail-shape_of-t-in-Node t c = c.over.auto.t ∙ c.fparams-l.auto.t ∙ c.rett-g.auto.t
-
-pub tail-returns-in-Node : goal.tail-returns-in-Node
-tail-returns-in-Node t c = head-good c.args.h c.if-h.true (does-sub c.rett-g.ensures c.in-Node.is (does-follows c.fparams-l.ensures (follows-tops c.over.ensures (λ l. closing-node (rw c.made.ensures) refl))))
-
-pub tail-shape_of-t-in-Refused : goal.tail-shape_of-t-in-Refused
-tail-shape_of-t-in-Refused t c = c.rett-g.auto.t
-
-pub tail-returns-in-Refused : goal.tail-returns-in-Refused
-tail-returns-in-Refused t c = head-good c.args.h c.if-h.true (sub-refused c.rett-g.ensures c.in-Refused.is)
-
-pub tail-returns : goal.tail-returns
-tail-returns t c = head-bad c.args.h c.if-h.false c.refused.ensures
-
-pub tmpl-unqn-g-requires : goal.tmpl-unqn-g-requires
-tmpl-unqn-g-requires t c = (omega (arith, c.decreases), c.requires)
-
-pub tmpl-params-l-requires : goal.tmpl-params-l-requires
-tmpl-params-l-requires t c = (omega (arith, c.decreases), c.requires)
-
-pub tmpl-shape_of-t-in-Node : goal.tmpl-shape_of-t-in-Node
-tmpl-shape_of-t-in-Node t c = c.template_end.auto.t ∙ c.params-l.auto.t ∙ c.unqn-g.auto.t
-
-pub tmpl-returns-in-Node : goal.tmpl-returns-in-Node
+pub tmpl-returns-in_err-n : goal.tmpl-returns-in_err-n
 unfolding template_name
-tmpl-returns-in-Node t c = does-memo (does-set c.emptied.ensures c.aside-outer.ensures.names_after c.aside-outer.ensures.types_after (does-sub c.unqn-g.ensures c.in-Node.is (does-follows c.params-l.ensures (rw c.aside-outer.ensures.value at (c.template_end.ensures c.args.s.now c.args.depth)))))
+tmpl-returns-in_err-n t c = does-memo (does-set c.aside-outer.ensures.state (sub-refused c.unqn.ensures c.in_err-n.was (handed c.from_residual.ensures)))
 
-pub tmpl-shape_of-t-in-Refused : goal.tmpl-shape_of-t-in-Refused
-tmpl-shape_of-t-in-Refused t c = c.unqn-g.auto.t
-
-pub tmpl-returns-in-Refused : goal.tmpl-returns-in-Refused
+pub tmpl-returns-in_err-l : goal.tmpl-returns-in_err-l
 unfolding template_name
-tmpl-returns-in-Refused t c = does-memo (does-set c.emptied.ensures c.aside-outer.ensures.names_after c.aside-outer.ensures.types_after (sub-refused c.unqn-g.ensures c.in-Refused.is))
+tmpl-returns-in_err-l t c = does-memo (does-set c.aside-outer.ensures.state (does-sub c.unqn.ensures c.in_ok-n.was (sub-refused c.params.ensures c.in_err-l.was (handed c.from_residual-in_err-l.ensures))))
 
-pub tofn-returns-then-depth-eq0 : goal.tofn-returns-then-depth-eq0
-tofn-returns-then-depth-eq0 t c = part-deep {tag = Func} c.if-depth-eq0.true c.refused.ensures
+pub tmpl-returns : goal.tmpl-returns
+unfolding template_name
+tmpl-returns t c = does-memo (does-set c.aside-outer.ensures.state (does-sub c.unqn.ensures c.in_ok-n.was (does-sub c.params.ensures c.in_ok-l.was (does-set (rw c.aside-outer.ensures.value at c.put_back.ensures) (closes c.shut.ensures.shuts (rw (c.to-a.ensures, c.from-b.ensures)) refl)))))
 
-pub tofn-func-g-requires : goal.tofn-func-g-requires
-tofn-func-g-requires t c = (omega (arith, c.decreases, c.if-depth-eq0.false), c.requires)
+pub name-returns-in_err-left : goal.name-returns-in_err-left
+name-returns-in_err-left t c = reads-deep c.open.ensures c.in_err-left.was (handed c.from_residual.ensures)
 
-pub tofn-shape_of-t : goal.tofn-shape_of-t
-tofn-shape_of-t t c = c.above.auto.t ∙ c.func-g.auto.t
+pub name-returns-in_err-n : goal.name-returns-in_err-n
+unfolding body name_body
+name-returns-in_err-n t c = reads-body c.open.ensures c.in_ok-left.was (sub-refused c.unqn.ensures c.in_err-n.was (handed c.from_residual-in_err-n.ensures))
 
-pub tofn-returns : goal.tofn-returns
+pub name-returns-in_err-l : goal.name-returns-in_err-l
+unfolding body name_body
+name-returns-in_err-l t c = reads-body c.open.ensures c.in_ok-left.was (does-sub c.unqn.ensures c.in_ok-n.was (sub-refused c.scope.ensures c.in_err-l.was (handed c.from_residual-in_err-l.ensures)))
+
+pub name-returns-in_err-s : goal.name-returns-in_err-s
+unfolding body name_body
+name-returns-in_err-s t c = reads-body c.open.ensures c.in_ok-left.was (does-sub c.unqn.ensures c.in_ok-n.was (does-sub c.scope.ensures c.in_ok-l.was (sub-refused (closes c.shut.ensures.shuts (rw (c.to-a.ensures, c.from-b.ensures)) refl) c.in_err-s.was (handed c.from_residual-in_err-s.ensures))))
+
+pub name-returns : goal.name-returns
+unfolding body name_body
+name-returns t c = reads-body c.open.ensures c.in_ok-left.was (does-sub c.unqn.ensures c.in_ok-n.was (does-sub c.scope.ensures c.in_ok-l.was (does-sub (closes c.shut.ensures.shuts (rw (c.to-a.ensures, c.from-b.ensures)) refl) c.in_ok-s.was does-ret)))
+
+pub unqn-returns-in_err-n : goal.unqn-returns-in_err-n
+unqn-returns-in_err-n t c = on-digit stored c.digit.ensures c.in-Some.is (sub-refused (does-finds c.name_of.ensures) c.in_err-n.was (handed c.from_residual.ensures))
+
+pub unqn-returns-in-Some : goal.unqn-returns-in-Some
+unqn-returns-in-Some t c = on-digit stored c.digit.ensures c.in-Some.is (does-sub (does-finds c.name_of.ensures) c.in_ok-n.was does-ret)
+
+pub unqn-returns-in-None : goal.unqn-returns-in-None
+unqn-returns-in-None t c = no_digit stored c.digit.ensures c.in-None.is (does-part c.unq.ensures)
+
+pub unq-returns-in_err-left : goal.unq-returns-in_err-left
+unq-returns-in_err-left t c = reads-deep c.open.ensures c.in_err-left.was (handed c.from_residual.ensures)
+
+pub unq-returns-in_err-unqualified_shape : goal.unq-returns-in_err-unqualified_shape
 unfolding body
-tofn-returns t c = does-follows (does-part {tag = Func} {v = plain} (reads-body {tag = Func} {v = plain} c.if-depth-eq0.false c.opened.ensures c.func-g.ensures)) (follows-tops c.above.ensures (λ n. closing-node refl refl))
+unq-returns-in_err-unqualified_shape t c = reads-body c.open.ensures c.in_ok-left.was (leads-refused (c.unqualified_shape.ensures c.args.function) c.in_err-unqualified_shape.was (handed c.from_residual-in_err-unqualified_shape.ensures))
 
-pub ty-returns-then-depth-eq0 : goal.ty-returns-then-depth-eq0
-ty-returns-then-depth-eq0 t c = reads-deep c.if-depth-eq0.true c.refused.ensures
-
-pub ty-type_shape-k-requires : goal.ty-type_shape-k-requires
-ty-type_shape-k-requires t c = c.requires
-
-pub ty-named-requires : goal.ty-named-requires
-ty-named-requires t c = (omega (arith, c.decreases, c.if-depth-eq0.false), c.requires)
-
-pub ty-point-requires : goal.ty-point-requires
-ty-point-requires t c = (omega (arith, c.decreases, c.if-depth-eq0.false), c.requires)
-
-pub ty-tofn-requires : goal.ty-tofn-requires
-ty-tofn-requires t c = (omega (arith, c.decreases, c.if-depth-eq0.false), c.requires)
-
-pub ty-mptr-requires : goal.ty-mptr-requires
-ty-mptr-requires t c = (omega (arith, c.decreases, c.if-depth-eq0.false), c.requires)
-
-pub ty-func-requires : goal.ty-func-requires
-ty-func-requires t c = (omega (arith, c.decreases, c.if-depth-eq0.false), c.requires)
-
-pub ty-array-requires : goal.ty-array-requires
-ty-array-requires t c = (omega (arith, c.decreases, c.if-depth-eq0.false), c.requires)
-
-pub ty-returns-in-Named : goal.ty-returns-in-Named
+pub unq-returns-in_err-n : goal.unq-returns-in_err-n
 unfolding body
-ty-returns-in-Named t c = reads-body c.if-depth-eq0.false c.opened.ensures (does-leads c.type_shape-k.ensures (does-as (ap shape_type c.in-Named.is) c.named.ensures))
+unq-returns-in_err-n t c = reads-body c.open.ensures c.in_ok-left.was (does-leads (c.unqualified_shape.ensures c.args.function) (c.in_ok-unqualified_shape.was ∙ ap Ok c.in-Template.is) (sub-refused c.tmpl.ensures c.in_err-n.was (handed c.from_residual-in_err-n.ensures)))
 
-pub ty-returns-in-Pointing : goal.ty-returns-in-Pointing
+pub unq-returns-then-function : goal.unq-returns-then-function
 unfolding body
-ty-returns-in-Pointing t c = reads-body c.if-depth-eq0.false c.opened.ensures (does-leads c.type_shape-k.ensures (does-as (ap shape_type c.in-Pointing.is) c.point.ensures))
+unq-returns-then-function t c = reads-body c.open.ensures c.in_ok-left.was (does-leads (c.unqualified_shape.ensures c.args.function) (c.in_ok-unqualified_shape.was ∙ ap Ok c.in-Template.is) (does-sub c.tmpl.ensures c.in_ok-n.was (does-other c.if-function.false (does-keeps c.memorize_name.ensures does-ret))))
 
-pub ty-returns-in-ToFunction : goal.ty-returns-in-ToFunction
+pub unq-returns-else-function : goal.unq-returns-else-function
 unfolding body
-ty-returns-in-ToFunction t c = reads-body c.if-depth-eq0.false c.opened.ensures (does-leads c.type_shape-k.ensures (does-as (ap shape_type c.in-ToFunction.is) c.tofn.ensures))
-
-pub ty-returns-in-Member : goal.ty-returns-in-Member
-unfolding body
-ty-returns-in-Member t c = reads-body c.if-depth-eq0.false c.opened.ensures (does-leads c.type_shape-k.ensures (does-as (ap shape_type c.in-Member.is) c.mptr.ensures))
-
-pub ty-returns-in-Function : goal.ty-returns-in-Function
-unfolding body
-ty-returns-in-Function t c = reads-body c.if-depth-eq0.false c.opened.ensures (does-leads c.type_shape-k.ensures (does-as (ap shape_type c.in-Function.is) c.func.ensures))
-
-pub ty-returns-in-Array : goal.ty-returns-in-Array
-unfolding body
-ty-returns-in-Array t c = reads-body c.if-depth-eq0.false c.opened.ensures (does-leads c.type_shape-k.ensures (does-as (ap shape_type c.in-Array.is) c.array.ensures))
-
-pub ty-returns-in-Leaf : goal.ty-returns-in-Leaf
-unfolding body
-ty-returns-in-Leaf t c = reads-body c.if-depth-eq0.false c.opened.ensures (does-leads c.type_shape-k.ensures (does-as (ap shape_type c.in-Leaf.is) (closes c.shut_leaf.ensures refl refl)))
-
-pub ty-returns-in-Refused : goal.ty-returns-in-Refused
-unfolding body
-ty-returns-in-Refused t c = reads-body c.if-depth-eq0.false c.opened.ensures (does-leads c.type_shape-k.ensures (does-as (ap shape_type c.in-Refused.is) (does-fail c.refused-in-Refused.ensures)))
-
-pub unq-returns-then-depth-eq0 : goal.unq-returns-then-depth-eq0
-unq-returns-then-depth-eq0 t c = reads-deep c.if-depth-eq0.true c.refused.ensures
-
-pub unq-unqualified_shape-k-requires : goal.unq-unqualified_shape-k-requires
-unq-unqualified_shape-k-requires t c = c.requires
-
-pub unq-tmpl-g-requires : goal.unq-tmpl-g-requires
-unq-tmpl-g-requires t c = (omega (arith, c.decreases, c.if-depth-eq0.false), c.requires)
-
-pub unq-special-requires : goal.unq-special-requires
-unq-special-requires t c = (omega (arith, c.decreases, c.if-depth-eq0.false), c.requires)
-
-pub unq-shape_of-t-in-Template : goal.unq-shape_of-t-in-Template
-unq-shape_of-t-in-Template t c = c.tmpl-g.auto.t
-
-pub unq-returns-in-Template : goal.unq-returns-in-Template
-unfolding body
-unq-returns-in-Template t c = reads-body c.if-depth-eq0.false c.opened.ensures (does-leads (c.unqualified_shape-k.ensures c.args.function) (does-as (ap (shape_unqualified c.args.function) c.in-Template.is) (does-follows c.tmpl-g.ensures (c.stored_unless.ensures _ _ _ _))))
-
-pub unq-shape_of-t-in-Special : goal.unq-shape_of-t-in-Special
-unq-shape_of-t-in-Special t c = c.special.auto.t
+unq-returns-else-function t c = reads-body c.open.ensures c.in_ok-left.was (does-leads (c.unqualified_shape.ensures c.args.function) (c.in_ok-unqualified_shape.was ∙ ap Ok c.in-Template.is) (does-sub c.tmpl.ensures c.in_ok-n.was (does-chosen c.if-function.true (does-given does-ret))))
 
 pub unq-returns-in-Special : goal.unq-returns-in-Special
 unfolding body
-unq-returns-in-Special t c = reads-body c.if-depth-eq0.false c.opened.ensures (does-leads (c.unqualified_shape-k.ensures c.args.function) (does-as (ap (shape_unqualified c.args.function) c.in-Special.is) c.special.ensures))
+unq-returns-in-Special t c = reads-body c.open.ensures c.in_ok-left.was (does-leads (c.unqualified_shape.ensures c.args.function) (c.in_ok-unqualified_shape.was ∙ ap Ok c.in-Special.is) (c.special.ensures))
 
-pub unq-shape_of-t-in-Plain : goal.unq-shape_of-t-in-Plain
-unq-shape_of-t-in-Plain t c = c.leaf_name.auto.t
+pub unq-returns-in_err-n-2 : goal.unq-returns-in_err-n-2
+unfolding body
+unq-returns-in_err-n-2 t c = reads-body c.open.ensures c.in_ok-left.was (does-leads (c.unqualified_shape.ensures c.args.function) (c.in_ok-unqualified_shape.was ∙ ap Ok c.in-Plain.is) (sub-refused (c.leaf_name.ensures _) c.in_err-n-2.was (handed c.from_residual-in_err-n-2.ensures)))
 
 pub unq-returns-in-Plain : goal.unq-returns-in-Plain
 unfolding body
-unq-returns-in-Plain t c = reads-body c.if-depth-eq0.false c.opened.ensures (does-leads (c.unqualified_shape-k.ensures c.args.function) (does-as (ap (shape_unqualified c.args.function) c.in-Plain.is) (does-beside (c.leaf_name.ensures _ _) c.beside.ensures)))
+unq-returns-in-Plain t c = reads-body c.open.ensures c.in_ok-left.was (does-leads (c.unqualified_shape.ensures c.args.function) (c.in_ok-unqualified_shape.was ∙ ap Ok c.in-Plain.is) (does-sub (c.leaf_name.ensures _) c.in_ok-n-2.was does-ret))
 
-pub unq-returns-in-Refused : goal.unq-returns-in-Refused
+pub special-returns-in_err-special_shape : goal.special-returns-in_err-special_shape
+special-returns-in_err-special_shape t c = leads-refused c.special_shape.ensures c.in_err-special_shape.was (handed c.from_residual.ensures)
+
+pub special-returns-in_err-n : goal.special-returns-in_err-n
+special-returns-in_err-n t c = does-leads c.special_shape.ensures (c.in_ok-special_shape.was ∙ ap Ok c.in-Operator.is) (sub-refused (closes c.shut_leaf.ensures refl refl) c.in_err-n.was (handed c.from_residual-in_err-n.ensures))
+
+pub special-returns-in-Operator : goal.special-returns-in-Operator
+special-returns-in-Operator t c = does-leads c.special_shape.ensures (c.in_ok-special_shape.was ∙ ap Ok c.in-Operator.is) (does-sub (closes c.shut_leaf.ensures refl refl) c.in_ok-n.was (rw c.is_guard.ensures does-ret))
+
+pub special-returns-in_err-n-2 : goal.special-returns-in_err-n-2
+special-returns-in_err-n-2 t c = does-leads c.special_shape.ensures (c.in_ok-special_shape.was ∙ ap Ok c.in-Type.is) (does-inner (sub-refused c.vtype.ensures c.in_err-n-2.was (handed c.from_residual-in_err-n-2.ensures)))
+
+pub special-returns-in_err-d : goal.special-returns-in_err-d
+special-returns-in_err-d t c = does-leads c.special_shape.ensures (c.in_ok-special_shape.was ∙ ap Ok c.in-Type.is) (does-inner (does-sub c.vtype.ensures c.in_ok-n-2.was (sub-refused (closes c.above.ensures refl refl) c.in_err-d.was (handed c.from_residual-in_err-d.ensures))))
+
+pub special-returns-in-Type : goal.special-returns-in-Type
+special-returns-in-Type t c = does-leads c.special_shape.ensures (c.in_ok-special_shape.was ∙ ap Ok c.in-Type.is) (does-inner (does-sub c.vtype.ensures c.in_ok-n-2.was (does-sub (closes c.above.ensures refl refl) c.in_ok-d.was does-ret)))
+
+pub special-returns-in_err-n-3 : goal.special-returns-in_err-n-3
+special-returns-in_err-n-3 t c = does-leads c.special_shape.ensures (c.in_ok-special_shape.was ∙ ap Ok c.in-Base.is) (sub-refused (closes c.shut.ensures.shuts refl refl) c.in_err-n-3.was (handed c.from_residual-in_err-n-3.ensures))
+
+pub special-returns-in-Base : goal.special-returns-in-Base
+special-returns-in-Base t c = does-leads c.special_shape.ensures (c.in_ok-special_shape.was ∙ ap Ok c.in-Base.is) (does-sub (closes c.shut.ensures.shuts refl refl) c.in_ok-n-3.was does-ret)
+
+pub nname-returns-in-Some : goal.nname-returns-in-Some
+nname-returns-in-Some t c = on-digit name_of c.digit.ensures c.in-Some.is (does-finds c.name_of.ensures)
+
+pub nname-returns-in-None : goal.nname-returns-in-None
+nname-returns-in-None t c = no_digit name_of c.digit.ensures c.in-None.is (does-part c.nested.ensures)
+
+pub nested-returns-in_err-left : goal.nested-returns-in_err-left
+nested-returns-in_err-left t c = reads-deep c.open.ensures c.in_err-left.was (handed c.from_residual.ensures)
+
+pub nested-returns-in_err-name_shape : goal.nested-returns-in_err-name_shape
 unfolding body
-unq-returns-in-Refused t c = reads-body c.if-depth-eq0.false c.opened.ensures (does-leads (c.unqualified_shape-k.ensures c.args.function) (does-as (ap (shape_unqualified c.args.function) c.in-Refused.is) (does-fail c.refused-in-Refused.ensures)))
+nested-returns-in_err-name_shape t c = reads-body c.open.ensures c.in_ok-left.was (leads-refused c.name_shape.ensures c.in_err-name_shape.was (handed c.from_residual-in_err-name_shape.ensures))
 
-pub unqn-digit-d-requires : goal.unqn-digit-d-requires
-unqn-digit-d-requires t c = c.requires
+pub nested-returns-in-Stored : goal.nested-returns-in-Stored
+unfolding body
+nested-returns-in-Stored t c = reads-body c.open.ensures c.in_ok-left.was (does-leads c.name_shape.ensures (c.in_ok-name_shape.was ∙ ap Ok c.in-Stored.is) (does-finds c.name_of.ensures))
 
-pub unqn-unq-requires : goal.unqn-unq-requires
-unqn-unq-requires t c = (omega (arith, c.decreases), c.requires)
+pub nested-returns-in_err-n : goal.nested-returns-in_err-n
+unfolding body
+nested-returns-in_err-n t c = reads-body c.open.ensures c.in_ok-left.was (does-leads c.name_shape.ensures (c.in_ok-name_shape.was ∙ ap Ok c.in-Parsed.is) (sub-refused (does-part c.parse.ensures) c.in_err-n.was (handed c.from_residual-in_err-n.ensures)))
 
-pub unqn-returns-in-Is : goal.unqn-returns-in-Is
-unqn-returns-in-Is t c = on-digit stored c.digit-d.ensures c.in-Is.is (unguarded (does-finds (c.name_of.ensures _ _)) (c.name_of.ensures [] []).bare)
+pub nested-returns-in-Parsed : goal.nested-returns-in-Parsed
+unfolding body
+nested-returns-in-Parsed t c = reads-body c.open.ensures c.in_ok-left.was (does-leads c.name_shape.ensures (c.in_ok-name_shape.was ∙ ap Ok c.in-Parsed.is) (does-sub (does-part c.parse.ensures) c.in_ok-n.was (closes c.above.ensures refl refl)))
 
-pub unqn-shape_of-t : goal.unqn-shape_of-t
-unqn-shape_of-t t c = c.unq.auto.t
+pub nested-returns-in_err-n-2 : goal.nested-returns-in_err-n-2
+unfolding body
+nested-returns-in_err-n-2 t c = reads-body c.open.ensures c.in_ok-left.was (does-leads c.name_shape.ensures (c.in_ok-name_shape.was ∙ ap Ok c.in-Template.is) (sub-refused c.tmpl.ensures c.in_err-n-2.was (handed c.from_residual-in_err-n-2.ensures)))
 
-pub unqn-returns-in-Bad : goal.unqn-returns-in-Bad
-unqn-returns-in-Bad t c = no_digit stored c.digit-d.ensures c.in-Bad.is (does-part c.unq.ensures)
+pub nested-returns-in-Template : goal.nested-returns-in-Template
+unfolding body
+nested-returns-in-Template t c = reads-body c.open.ensures c.in_ok-left.was (does-leads c.name_shape.ensures (c.in_ok-name_shape.was ∙ ap Ok c.in-Template.is) (does-sub c.tmpl.ensures c.in_ok-n-2.was (does-keeps c.memorize_name.ensures does-ret)))
 
-pub var-vtype-g-requires : goal.var-vtype-g-requires
-var-vtype-g-requires t c = (omega (arith, c.decreases), c.requires)
+pub nested-returns-in-Leaf : goal.nested-returns-in-Leaf
+unfolding body
+nested-returns-in-Leaf t c = reads-body c.open.ensures c.in_ok-left.was (does-leads c.name_shape.ensures (c.in_ok-name_shape.was ∙ ap Ok c.in-Leaf.is) (c.leaf_name.ensures _))
 
-pub var-storage_class-c-requires : goal.var-storage_class-c-requires
-var-storage_class-c-requires t c = c.requires
+pub parse-returns-in_err-left : goal.parse-returns-in_err-left
+parse-returns-in_err-left t c = reads-deep c.open.ensures c.in_err-left.was (handed c.from_residual.ensures)
 
-pub var-shape_of-t-in-Node : goal.var-shape_of-t-in-Node
-var-shape_of-t-in-Node t c = c.shut.auto.t ∙ c.vtype-g.auto.t
+pub parse-returns-in_err-expect : goal.parse-returns-in_err-expect
+unfolding body
+parse-returns-in_err-expect t c = reads-body c.open.ensures c.in_ok-left.was (value-bad (values-expect "?" c.expect.ensures) c.in_err-expect.was (handed c.from_residual-in_err-expect.ensures))
 
-pub var-returns-in-Node : goal.var-returns-in-Node
-var-returns-in-Node t c = does-sub c.vtype-g.ensures c.in-Node.is (does-class c.storage_class-c.ensures (closes c.shut.ensures.shuts c.made.ensures refl))
+pub parse-returns : goal.parse-returns
+unfolding body
+parse-returns t c = reads-body c.open.ensures c.in_ok-left.was (does-value (values-expect "?" c.expect.ensures) c.in_ok-expect.was c.pform.ensures)
 
-pub var-shape_of-t-in-Refused : goal.var-shape_of-t-in-Refused
-var-shape_of-t-in-Refused t c = c.vtype-g.auto.t
+pub pform-returns-in-Md5 : goal.pform-returns-in-Md5
+pform-returns-in-Md5 t c = does-leads c.parse_form.ensures (ap Ok c.in-Md5.is) c.parse_md5.ensures
 
-pub var-returns-in-Refused : goal.var-returns-in-Refused
-var-returns-in-Refused t c = sub-refused c.vtype-g.ensures c.in-Refused.is
+pub pform-returns-in-Guard : goal.pform-returns-in-Guard
+pform-returns-in-Guard t c = does-leads c.parse_form.ensures (ap Ok c.in-Guard.is) c.pguard.ensures
 
-pub vtype-reference-f-requires : goal.vtype-reference-f-requires
-vtype-reference-f-requires t c = c.requires
+pub pform-returns-in-Template : goal.pform-returns-in-Template
+pform-returns-in-Template t c = does-leads c.parse_form.ensures (ap Ok c.in-Template.is) c.ptmpl.ensures
 
-pub vtype-ty-requires : goal.vtype-ty-requires
-vtype-ty-requires t c = (omega (arith, c.decreases), c.requires)
+pub pform-returns-in-Name : goal.pform-returns-in-Name
+pform-returns-in-Name t c = does-leads c.parse_form.ensures (ap Ok c.in-Name.is) c.pname.ensures
 
-pub vtype-returns-in-Is : goal.vtype-returns-in-Is
-vtype-returns-in-Is t c = on-reference c.args.sc c.reference-f.ensures c.in-Is.is (does-finds (c.type_of.ensures _ _))
+pub pname-returns-in_err-s : goal.pname-returns-in_err-s
+unfolding parse_of
+pname-returns-in_err-s t c = sub-refused (does-part c.name.ensures) c.in_err-s.was (handed c.from_residual.ensures)
 
-pub vtype-shape_of-t : goal.vtype-shape_of-t
-vtype-shape_of-t t c = c.ty.auto.t
+pub pname-returns-in_err-index : goal.pname-returns-in_err-index
+unfolding parse_of
+pname-returns-in_err-index t c = does-sub (does-part c.name.ensures) c.in_ok-s.was (value-bad c.guard_index.ensures c.in_err-index.was (handed c.from_residual-in_err-index.ensures))
 
-pub vtype-returns-in-Bad : goal.vtype-returns-in-Bad
-vtype-returns-in-Bad t c = no-reference c.args.sc c.reference-f.ensures c.in-Bad.is (does-part c.ty.ensures)
+pub pname-returns-in_err-n : goal.pname-returns-in_err-n
+unfolding parse_of
+pname-returns-in_err-n t c = does-sub (does-part c.name.ensures) c.in_ok-s.was (does-value c.guard_index.ensures c.in_ok-index.was (sub-refused (does-part c.sym.ensures) c.in_err-n.was (handed c.from_residual-in_err-n.ensures)))
+
+pub pname-returns : goal.pname-returns
+unfolding parse_of
+pname-returns t c = does-sub (does-part c.name.ensures) c.in_ok-s.was (does-value c.guard_index.ensures c.in_ok-index.was (does-sub (does-part c.sym.ensures) c.in_ok-n.was (c.parsed.ensures _)))
+
+pub pguard-returns-in_err-number : goal.pguard-returns-in_err-number
+unfolding parse_of
+pguard-returns-in_err-number t c = value-bad c.guard_number.ensures c.in_err-number.was (handed c.from_residual.ensures)
+
+pub pguard-returns-in_err-s : goal.pguard-returns-in_err-s
+unfolding parse_of
+pguard-returns-in_err-s t c = does-value c.guard_number.ensures c.in_ok-number.was (sub-refused (does-part c.oguard.ensures) c.in_err-s.was (handed c.from_residual-in_err-s.ensures))
+
+pub pguard-returns-in_err-n : goal.pguard-returns-in_err-n
+unfolding parse_of body
+pguard-returns-in_err-n t c = does-value c.guard_number.ensures c.in_ok-number.was (does-sub (does-part c.oguard.ensures) c.in_ok-s.was (sub-refused (does-part (reads-opens (GuardType c.in_ok-number.number) (c.literal_part.ensures (c.in_ok-number.number ∷ []) refl))) c.in_err-n.was (handed c.from_residual-in_err-n.ensures)))
+
+pub pguard-returns : goal.pguard-returns
+unfolding parse_of body
+pguard-returns t c = does-value c.guard_number.ensures c.in_ok-number.was (does-sub (does-part c.oguard.ensures) c.in_ok-s.was (does-sub (does-part (reads-opens (GuardType c.in_ok-number.number) (c.literal_part.ensures (c.in_ok-number.number ∷ []) refl))) c.in_ok-n.was (c.parsed.ensures _)))
+
+pub ptmpl-returns-in_err-s : goal.ptmpl-returns-in_err-s
+unfolding parse_of
+ptmpl-returns-in_err-s t c = sub-refused (does-part c.otmpl.ensures) c.in_err-s.was (handed c.from_residual.ensures)
+
+pub ptmpl-returns-in_err-n : goal.ptmpl-returns-in_err-n
+unfolding parse_of
+ptmpl-returns-in_err-n t c = does-sub (does-part c.otmpl.ensures) c.in_ok-s.was (sub-refused (does-part c.no_type.ensures) c.in_err-n.was (handed c.from_residual-in_err-n.ensures))
+
+pub ptmpl-returns : goal.ptmpl-returns
+unfolding parse_of
+ptmpl-returns t c = does-sub (does-part c.otmpl.ensures) c.in_ok-s.was (does-sub (does-part c.no_type.ensures) c.in_ok-n.was (c.parsed.ensures _))
+
+pub otmpl-returns-in_err-left : goal.otmpl-returns-in_err-left
+otmpl-returns-in_err-left t c = reads-deep c.open.ensures c.in_err-left.was (handed c.from_residual.ensures)
+
+pub oname-returns-in_err-left : goal.oname-returns-in_err-left
+oname-returns-in_err-left t c = reads-deep c.open.ensures c.in_err-left.was (handed c.from_residual.ensures)
+
+pub oguard-returns-in_err-left : goal.oguard-returns-in_err-left
+oguard-returns-in_err-left t c = reads-deep c.open.ensures c.in_err-left.was (handed c.from_residual.ensures)
+
+pub sym-returns-in_err-left : goal.sym-returns-in_err-left
+sym-returns-in_err-left t c = reads-deep c.open.ensures c.in_err-left.was (handed c.from_residual.ensures)
+
+pub otmpl-returns-in_err-n : goal.otmpl-returns-in_err-n
+unfolding body
+otmpl-returns-in_err-n t c = reads-body c.open.ensures c.in_ok-left.was (sub-refused (does-part c.oname.ensures) c.in_err-n.was (handed c.from_residual-in_err-n.ensures))
+
+pub otmpl-returns : goal.otmpl-returns
+unfolding body
+otmpl-returns t c = reads-body c.open.ensures c.in_ok-left.was (does-sub (does-part c.oname.ensures) c.in_ok-n.was (closes c.above.ensures refl refl))
+
+pub oname-returns : goal.oname-returns
+unfolding body
+oname-returns t c = reads-body c.open.ensures c.in_ok-left.was c.tmpl.ensures
+
+pub oguard-returns-in_err-n : goal.oguard-returns-in_err-n
+unfolding body
+oguard-returns-in_err-n t c = reads-body c.open.ensures c.in_ok-left.was (sub-refused c.nname.ensures c.in_err-n.was (handed c.from_residual-in_err-n.ensures))
+
+pub oguard-returns-in_err-l : goal.oguard-returns-in_err-l
+unfolding body
+oguard-returns-in_err-l t c = reads-body c.open.ensures c.in_ok-left.was (does-sub c.nname.ensures c.in_ok-n.was (sub-refused c.scope.ensures c.in_err-l.was (handed c.from_residual-in_err-l.ensures)))
+
+pub oguard-returns : goal.oguard-returns
+unfolding body
+oguard-returns t c = reads-body c.open.ensures c.in_ok-left.was (does-sub c.nname.ensures c.in_ok-n.was (does-sub c.scope.ensures c.in_ok-l.was (closes c.shut.ensures.shuts (rw (c.to-a.ensures, c.from-b.ensures)) refl)))
+
+pub sym-returns-in_err-symbol_shape : goal.sym-returns-in_err-symbol_shape
+unfolding body
+sym-returns-in_err-symbol_shape t c = reads-body c.open.ensures c.in_ok-left.was (leads-refused c.symbol_shape.ensures c.in_err-symbol_shape.was (handed c.from_residual-in_err-symbol_shape.ensures))
+
+pub sym-returns-in-Variable : goal.sym-returns-in-Variable
+unfolding body
+sym-returns-in-Variable t c = reads-body c.open.ensures c.in_ok-left.was (does-leads c.symbol_shape.ensures (c.in_ok-symbol_shape.was ∙ ap Ok c.in-Variable.is) (c.var.ensures))
+
+pub sym-returns-in_err-l : goal.sym-returns-in_err-l
+unfolding body
+sym-returns-in_err-l t c = reads-body c.open.ensures c.in_ok-left.was (does-leads c.symbol_shape.ensures (c.in_ok-symbol_shape.was ∙ ap Ok c.in-Table.is) (sub-refused c.scope.ensures c.in_err-l.was (handed c.from_residual-in_err-l.ensures)))
+
+pub sym-returns-in-Table : goal.sym-returns-in-Table
+unfolding body
+sym-returns-in-Table t c = reads-body c.open.ensures c.in_ok-left.was (does-leads c.symbol_shape.ensures (c.in_ok-symbol_shape.was ∙ ap Ok c.in-Table.is) (does-sub c.scope.ensures c.in_ok-l.was (closes c.shut.ensures.shuts (rw c.from-a.ensures) refl)))
+
+pub sym-returns-in_err-x : goal.sym-returns-in_err-x
+unfolding body
+sym-returns-in_err-x t c = reads-body c.open.ensures c.in_ok-left.was (does-leads c.symbol_shape.ensures (c.in_ok-symbol_shape.was ∙ ap Ok c.in-Function.is) (leads-refused c.symbol_head.ensures c.in_err-x.was (handed c.from_residual-in_err-x.ensures)))
+
+pub sym-returns-in-Function : goal.sym-returns-in-Function
+unfolding body
+sym-returns-in-Function t c = reads-body c.open.ensures c.in_ok-left.was (does-leads c.symbol_shape.ensures (c.in_ok-symbol_shape.was ∙ ap Ok c.in-Function.is) (does-leads c.symbol_head.ensures c.in_ok-x.was c.tail.ensures))
+
+pub sym-returns-in-Leaf : goal.sym-returns-in-Leaf
+unfolding body
+sym-returns-in-Leaf t c = reads-body c.open.ensures c.in_ok-left.was (does-leads c.symbol_shape.ensures (c.in_ok-symbol_shape.was ∙ ap Ok c.in-Leaf.is) (closes c.shut_leaf.ensures refl refl))
+
+pub var-returns-in_err-n : goal.var-returns-in_err-n
+var-returns-in_err-n t c = sub-refused c.vtype.ensures c.in_err-n.was (handed c.from_residual.ensures)
+
+pub var-returns : goal.var-returns
+var-returns t c = does-sub c.vtype.ensures c.in_ok-n.was (does-value c.storage_class-class.ensures refl (closes c.above.ensures refl refl))

@@ -1,8 +1,3 @@
-use Rattle.grammar.specs.Grammar.{params, scope, params_from, scope_from}
-use mathlib.Core.Path.{◌≡◌}
-use Rattle.steps.specs.Does.{plain, Lent, lent, Does}
-use lib.ListN.{length}
-use Rattle.steps.specs.declared.state.Got.{Got}
 use Prim.Native.Nat.{◌+◌, ◌*◌}
 use Rattle.cycle.proofs.+readers.Given as goal
 
@@ -16,13 +11,13 @@ abbrev pub decreases-elem : goal.decreases-elem
 decreases-elem l = 8 * l.depth + 2
 
 abbrev pub decreases-fparams : goal.decreases-fparams
-decreases-fparams l = 8 * l.depth + 4
+decreases-fparams l = 8 * l.depth + 5
 
 abbrev pub decreases-func : goal.decreases-func
-decreases-func l = 8 * l.depth + 6
+decreases-func l = 8 * l.depth + 7
 
 abbrev pub decreases-mptr : goal.decreases-mptr
-decreases-mptr l = 8 * l.depth + 6
+decreases-mptr l = 8 * l.depth + 7
 
 abbrev pub decreases-name : goal.decreases-name
 decreases-name l = 8 * l.depth + 0
@@ -60,6 +55,9 @@ decreases-pform l = 8 * l.depth + 2
 abbrev pub decreases-pguard : goal.decreases-pguard
 decreases-pguard l = 8 * l.depth + 1
 
+abbrev pub decreases-plist : goal.decreases-plist
+decreases-plist l = 8 * l.depth + 4
+
 abbrev pub decreases-pname : goal.decreases-pname
 decreases-pname l = 8 * l.depth + 1
 
@@ -88,7 +86,7 @@ abbrev pub decreases-sym : goal.decreases-sym
 decreases-sym l = 8 * l.depth + 0
 
 abbrev pub decreases-tail : goal.decreases-tail
-decreases-tail l = 8 * l.depth + 5
+decreases-tail l = 8 * l.depth + 6
 
 abbrev pub decreases-tmpl : goal.decreases-tmpl
 decreases-tmpl l = 8 * l.depth + 4
@@ -110,15 +108,3 @@ decreases-var l = 8 * l.depth + 2
 
 abbrev pub decreases-vtype : goal.decreases-vtype
 decreases-vtype l = 8 * l.depth + 1
-
-abbrev pub invariant-params-loop-left : goal.invariant-params-loop-left
-invariant-params-loop-left l = (length l.t ≡ length l.initial.t) × ((g : Got) (t' : Lent) → Does l.s l.lim.depth l.lim.room l.depth (params_from l.left l.last) l.st (lent l.t l.names l.types) plain g t' → Does l.s l.lim.depth l.lim.room l.depth params l.initial.st (lent l.initial.t l.initial.names l.initial.types) plain g t')
-
-abbrev pub decreases-params-loop-left : goal.decreases-params-loop-left
-decreases-params-loop-left l = l.left
-
-abbrev pub invariant-scope-loop-left : goal.invariant-scope-loop-left
-invariant-scope-loop-left l = (length l.t ≡ length l.initial.t) × ((g : Got) (t' : Lent) → Does l.s l.lim.depth l.lim.room l.depth (scope_from l.left l.last) l.st (lent l.t l.names l.types) plain g t' → Does l.s l.lim.depth l.lim.room l.depth scope l.initial.st (lent l.initial.t l.initial.names l.initial.types) plain g t')
-
-abbrev pub decreases-scope-loop-left : goal.decreases-scope-loop-left
-decreases-scope-loop-left l = l.left
