@@ -1,22 +1,15 @@
 -- What read_var_type begins with, in the order of its lines. Assumes nothing: these are definitions.
-use Rattle.std.specs.Prelude.{ℕ, ◌+◌, List, [], ◌∷◌, drop}
+use Rattle.std.specs.Prelude.{ℕ, ◌+◌, List, [], ◌∷◌, drop, Option, Some, None}
 use Prim.Native.String.{String}
+use Rattle.forms.specs.declared.start.Start.{Start}
+use Rattle.forms.specs.Start.{start}
 use Rattle.scan.specs.Bytes.{pick, bytes, starts, spelled, up_to}
 use Rattle.scan.specs.Cursor.{read_digit}
 use Rattle.letters.specs.Classes.{read_qualifier}
-use Rattle.scan.specs.declared.cursor.Found.{Found}
-use Rattle.scan.specs.declared.cursor.Found.TheVariants.{Byte, Nothing}
 use Rattle.forms.specs.declared.types.TypeForm.{TypeForm}
 use Rattle.forms.specs.declared.types.TypeForm.TheVariants as form
-use Rattle.forms.specs.declared.types.TypeStart.{TypeStart}
 use Rattle.forms.specs.declared.types.TypeLetter.{TypeLetter}
 use Rattle.forms.specs.declared.types.TypeLetter.TheVariants as letter
-use Rattle.forms.specs.declared.types.TypeHead.{TypeHead}
-use Rattle.forms.specs.declared.types.Reference.{Reference}
-use Rattle.forms.specs.declared.types.Reference.TheVariants.{Stored, Absent}
-
-abbrev pub start : TypeForm → ℕ → TypeStart
-start f n = record { form = f; taken = n }
 
 -- The prefixes, in their order. A `$` that begins none of them is passed over, and a letter follows (type_letter); so it does behind `$$C` and its qualifier
 abbrev pub type_forms : List (String × TypeForm)
@@ -29,15 +22,15 @@ type_forms =
     ∷ ("$1", form.MemberPointer) ∷ ("$H", form.MemberPointer) ∷ ("$I", form.MemberPointer) ∷ ("$J", form.MemberPointer)
     ∷ ("$", form.Plain) ∷ []
 
-unfoldable pub type_start : List ℕ → TypeStart
+unfoldable pub type_start : List ℕ → Start TypeForm
 type_start r = spelled start type_forms (start form.Plain 0) r
 
 -- one prefix, of whose bytes the last ones are the literal
-abbrev pub start_if : List ℕ → List ℕ → TypeForm → ℕ → ℕ → TypeStart
+abbrev pub start_if : List ℕ → List ℕ → TypeForm → ℕ → ℕ → Start TypeForm
 start_if literal r f n other = pick (starts literal r) (start f n) (start form.Plain other)
 
-abbrev pub head : TypeLetter → ℕ → TypeHead
-head l n = record { letter = l; taken = n }
+abbrev pub head : TypeLetter → ℕ → Start (Option TypeLetter)
+head l n = start (Some l) n
 
 -- The letters. Basic types are numbered by their places in the crate's enum Type, from Void on. A digit is no letter: type_reference comes first
 abbrev pub type_letters : List (String × TypeLetter)
@@ -70,13 +63,16 @@ type_letters =
     ∷ ("_U", letter.Basic 18)  -- Char32
     ∷ []
 
-unfoldable pub type_letter : List ℕ → TypeHead
-type_letter r = spelled head type_letters (head letter.Refused (up_to (pick (starts (bytes "_") r) 2 1) r)) r
+unfoldable pub type_letter : List ℕ → Start (Option TypeLetter)
+type_letter r = spelled head type_letters (start None (up_to (pick (starts (bytes "_") r) 2 1) r)) r
+
+abbrev pub Reference : Type 0
+Reference = Option (ℕ × ℕ)
 
 -- A stored type: a digit; `$` and a digit that begins no prefix; `$$C`, a qualifier or none, and a digit
-abbrev pub stored : ℕ → Found → Reference
-stored n (Byte d) = Stored d (n + 1)
-stored n Nothing = Absent
+abbrev pub stored : ℕ → Option ℕ → Reference
+stored n (Some d) = Some (d, n + 1)
+stored n None = None
 
 abbrev pub digit_behind : ℕ → List ℕ → Reference
 digit_behind n r = stored n (read_digit (drop n r))
@@ -85,5 +81,5 @@ unfoldable pub type_reference : List ℕ → Reference
 type_reference r =
     pick (starts (bytes "$") r)
     (pick (starts (bytes "$$C") r) (digit_behind (3 + (read_qualifier (drop 3 r)).taken) r)
-    (pick (starts (bytes "$0") r) Absent (pick (starts (bytes "$1") r) Absent (digit_behind 1 r))))
+    (pick (starts (bytes "$0") r) None (pick (starts (bytes "$1") r) None (digit_behind 1 r))))
     (digit_behind 0 r)

@@ -2,6 +2,7 @@
 ghost use Rattle.std.specs.Prelude.{◌≡◌, List, ◌∷◌, ℕ, drop};
 ghost use Rattle.forms.specs.Begins.{parse_start, symbol_start, name_start};
 
+use crate::start::Start;
 use scan::cursor::consume;
 
 #[derive(Clone, Copy)]
@@ -10,12 +11,6 @@ pub enum ParseForm {
     Guard,
     Template,
     Name,
-}
-
-#[derive(Clone, Copy)]
-pub struct ParseStart {
-    pub form: ParseForm,
-    pub taken: usize,
 }
 
 // A variable has its kind, the place in the crate's enum VarStorageKind.
@@ -34,12 +29,6 @@ pub enum SymbolForm {
 }
 
 #[derive(Clone, Copy)]
-pub struct SymbolStart {
-    pub form: SymbolForm,
-    pub taken: usize,
-}
-
-#[derive(Clone, Copy)]
 pub enum NameForm {
     Stored(u32),
     Parsed,
@@ -51,78 +40,71 @@ pub enum NameForm {
     Plain,
 }
 
-#[derive(Clone, Copy)]
-pub struct NameStart {
-    pub form: NameForm,
-    pub taken: usize,
-}
-
 // Behind the symbol's `?`.
-pub fn parse_start(s: &[u8], at: usize) -> ParseStart
+pub fn parse_start(s: &[u8], at: usize) -> Start<ParseForm>
     ensures { result ≡ parse_start (drop at s.now) }
 {
     if consume(b"?@", s, at) {
-        return ParseStart {
+        return Start {
             form: ParseForm::Md5,
             taken: 2,
         };
     }
     if consume(b"$TSS", s, at) {
-        return ParseStart {
+        return Start {
             form: ParseForm::Guard,
             taken: 4,
         };
     }
     if consume(b"$", s, at) {
-        return ParseStart {
+        return Start {
             form: ParseForm::Template,
             taken: 1,
         };
     }
-    ParseStart {
+    Start {
         form: ParseForm::Name,
         taken: 0,
     }
 }
 
-// A start for each letter, which the layout spreads over four lines.
-fn symbol_letter(c: u8) -> SymbolStart
+fn symbol_letter(c: u8) -> Start<SymbolForm>
     ensures { (rest : List ℕ) → result ≡ symbol_start (c ∷ rest) }
 {
     match c {
-        b'0'..=b'4' => SymbolStart {
+        b'0'..=b'4' => Start {
             form: SymbolForm::Variable((c - b'0') as u32),
             taken: 1,
         },
-        b'6' => SymbolStart {
+        b'6' => Start {
             form: SymbolForm::VFTable,
             taken: 1,
         },
-        b'7' => SymbolStart {
+        b'7' => Start {
             form: SymbolForm::VBTable,
             taken: 1,
         },
-        b'9' => SymbolStart {
+        b'9' => Start {
             form: SymbolForm::ExternC,
             taken: 1,
         },
-        b'Y' => SymbolStart {
+        b'Y' => Start {
             form: SymbolForm::Function,
             taken: 1,
         },
-        b'_' => SymbolStart {
+        b'_' => Start {
             form: SymbolForm::String,
             taken: 1,
         },
-        b'$' => SymbolStart {
+        b'$' => Start {
             form: SymbolForm::VCallThunk,
             taken: 1,
         },
-        b'8' => SymbolStart {
+        b'8' => Start {
             form: SymbolForm::Rtti,
             taken: 1,
         },
-        _ => SymbolStart {
+        _ => Start {
             form: SymbolForm::Member,
             taken: 0,
         },
@@ -130,13 +112,13 @@ fn symbol_letter(c: u8) -> SymbolStart
 }
 
 // Behind the symbol's name. A member function's class is read from the letter itself.
-pub fn symbol_start(s: &[u8], at: usize) -> SymbolStart
+pub fn symbol_start(s: &[u8], at: usize) -> Start<SymbolForm>
     ensures { result ≡ symbol_start (drop at s.now) }
 {
     if at < s.len() {
         symbol_letter(s[at])
     } else {
-        SymbolStart {
+        Start {
             form: SymbolForm::Nothing,
             taken: 0,
         }
@@ -144,16 +126,16 @@ pub fn symbol_start(s: &[u8], at: usize) -> SymbolStart
 }
 
 // Behind `?A`.
-fn name_behind_a(s: &[u8], at: usize) -> NameStart
+fn name_behind_a(s: &[u8], at: usize) -> Start<NameForm>
     ensures { result ≡ name_start (63 ∷ 65 ∷ drop at s.now) }
 {
     if consume(b"0x", s, at) {
-        NameStart {
+        Start {
             form: NameForm::AnonymousId,
             taken: 4,
         }
     } else {
-        NameStart {
+        Start {
             form: NameForm::Anonymous,
             taken: 2,
         }
@@ -161,54 +143,54 @@ fn name_behind_a(s: &[u8], at: usize) -> NameStart
 }
 
 // Behind `?`. The `?` of a nested symbol is looked at and left to it.
-fn name_behind_mark(s: &[u8], at: usize) -> NameStart
+fn name_behind_mark(s: &[u8], at: usize) -> Start<NameForm>
     ensures { result ≡ name_start (63 ∷ drop at s.now) }
 {
     if s.len() <= at {
-        return NameStart {
+        return Start {
             form: NameForm::Discriminator,
             taken: 1,
         };
     }
     let c = s[at];
     match c {
-        b'?' => NameStart {
+        b'?' => Start {
             form: NameForm::Parsed,
             taken: 1,
         },
-        b'$' => NameStart {
+        b'$' => Start {
             form: NameForm::Template,
             taken: 2,
         },
         b'A' => name_behind_a(s, at + 1),
-        b'Q' => NameStart {
+        b'Q' => Start {
             form: NameForm::Interface,
             taken: 2,
         },
-        _ => NameStart {
+        _ => Start {
             form: NameForm::Discriminator,
             taken: 1,
         },
     }
 }
 
-pub fn name_start(s: &[u8], at: usize) -> NameStart
+pub fn name_start(s: &[u8], at: usize) -> Start<NameForm>
     ensures { result ≡ name_start (drop at s.now) }
 {
     if s.len() <= at {
-        return NameStart {
+        return Start {
             form: NameForm::Plain,
             taken: 0,
         };
     }
     let c = s[at];
     match c {
-        b'0'..=b'9' => NameStart {
+        b'0'..=b'9' => Start {
             form: NameForm::Stored((c - b'0') as u32),
             taken: 1,
         },
         b'?' => name_behind_mark(s, at + 1),
-        _ => NameStart {
+        _ => Start {
             form: NameForm::Plain,
             taken: 0,
         },

@@ -2,4 +2,5 @@
 #![tactic(auto)]
 
 pub mod begins;
+pub mod start;
 pub mod types;

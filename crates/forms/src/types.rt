@@ -1,9 +1,11 @@
 // What `read_var_type` begins with: its prefixes in their order, the letter behind them, and the look ahead for a stored type.
 ghost use Rattle.std.specs.Prelude.{◌≡◌, List, ◌∷◌, ℕ, ◌+◌, ◌<◌, ◌^◌, drop};
-ghost use Rattle.forms.specs.Types.{start_if, type_start, head, type_letter, digit_behind, type_reference};
+ghost use Rattle.forms.specs.Start.{start};
+ghost use Rattle.forms.specs.Types.{start_if, type_start, type_letter, digit_behind, type_reference};
 
+use crate::start::Start;
 use letters::read_qualifier;
-use scan::cursor::{Found, consume, read_digit};
+use scan::cursor::{consume, read_digit};
 
 // The prefixes; `Plain` where none of them stands.
 #[derive(Clone, Copy)]
@@ -26,12 +28,6 @@ pub enum TypeForm {
     Plain,
 }
 
-#[derive(Clone, Copy)]
-pub struct TypeStart {
-    pub form: TypeForm,
-    pub taken: usize,
-}
-
 // The letters behind them. A basic type is its place in the crate's enum Type, counted from `Void`.
 #[derive(Clone, Copy)]
 pub enum TypeLetter {
@@ -47,21 +43,10 @@ pub enum TypeLetter {
     ConstVolatilePtr,
     Array,
     Basic(u32),
-    Refused,
-}
-
-#[derive(Clone, Copy)]
-pub struct TypeHead {
-    pub letter: TypeLetter,
-    pub taken: usize,
 }
 
 // A stored type: its digit, and the bytes up to and with it.
-#[derive(Clone, Copy)]
-pub enum Reference {
-    Stored(u32, usize),
-    Absent,
-}
+pub type Reference = Option<(u32, usize)>;
 
 // One prefix where the literal stands here, and none where it does not.
 fn start_if(
@@ -71,13 +56,13 @@ fn start_if(
     form: TypeForm,
     taken: usize,
     other: usize,
-) -> TypeStart
+) -> Start<TypeForm>
     ensures { result ≡ start_if literal.now (drop at s.now) form taken other }
 {
     if consume(literal, s, at) {
-        TypeStart { form, taken }
+        Start { form, taken }
     } else {
-        TypeStart {
+        Start {
             form: TypeForm::Plain,
             taken: other,
         }
@@ -85,11 +70,11 @@ fn start_if(
 }
 
 // Behind `$$A`.
-fn start_of_function(s: &[u8], at: usize) -> TypeStart
+fn start_of_function(s: &[u8], at: usize) -> Start<TypeForm>
     ensures { result ≡ type_start (36 ∷ 36 ∷ 65 ∷ drop at s.now) }
 {
     if consume(b"6", s, at) {
-        return TypeStart {
+        return Start {
             form: TypeForm::Function,
             taken: 4,
         };
@@ -98,36 +83,36 @@ fn start_of_function(s: &[u8], at: usize) -> TypeStart
 }
 
 // `$$x`
-fn two_dollars(c: u8) -> TypeStart
+fn two_dollars(c: u8) -> Start<TypeForm>
     requires { (c ≡ 66 → ⊥) × (c ≡ 36 → ⊥) × (c ≡ 65 → ⊥) }
     ensures { (rest : List ℕ) → result ≡ type_start (36 ∷ 36 ∷ c ∷ rest) }
 {
     match c {
-        b'Q' => TypeStart {
+        b'Q' => Start {
             form: TypeForm::RValueRef,
             taken: 3,
         },
-        b'V' => TypeStart {
+        b'V' => Start {
             form: TypeForm::EmptyPack,
             taken: 3,
         },
-        b'Z' => TypeStart {
+        b'Z' => Start {
             form: TypeForm::EmptyPack,
             taken: 3,
         },
-        b'T' => TypeStart {
+        b'T' => Start {
             form: TypeForm::Nullptr,
             taken: 3,
         },
-        b'Y' => TypeStart {
+        b'Y' => Start {
             form: TypeForm::Alias,
             taken: 3,
         },
-        b'C' => TypeStart {
+        b'C' => Start {
             form: TypeForm::Reclassed,
             taken: 3,
         },
-        _ => TypeStart {
+        _ => Start {
             form: TypeForm::Plain,
             taken: 1,
         },
@@ -135,11 +120,11 @@ fn two_dollars(c: u8) -> TypeStart
 }
 
 // Behind `$$`.
-fn start_behind_two(s: &[u8], at: usize) -> TypeStart
+fn start_behind_two(s: &[u8], at: usize) -> Start<TypeForm>
     ensures { result ≡ type_start (36 ∷ 36 ∷ drop at s.now) }
 {
     if s.len() <= at {
-        return TypeStart {
+        return Start {
             form: TypeForm::Plain,
             taken: 1,
         };
@@ -154,28 +139,28 @@ fn start_behind_two(s: &[u8], at: usize) -> TypeStart
 }
 
 // `$x`
-fn one_dollar(c: u8) -> TypeStart
+fn one_dollar(c: u8) -> Start<TypeForm>
     requires { c ≡ 36 → ⊥ }
     ensures { (rest : List ℕ) → result ≡ type_start (36 ∷ c ∷ rest) }
 {
     match c {
-        b'0' => TypeStart {
+        b'0' => Start {
             form: TypeForm::Constant,
             taken: 2,
         },
-        b'D' => TypeStart {
+        b'D' => Start {
             form: TypeForm::TemplateParameter,
             taken: 2,
         },
-        b'S' => TypeStart {
+        b'S' => Start {
             form: TypeForm::EmptyPack,
             taken: 2,
         },
-        b'1' | b'H'..=b'J' => TypeStart {
+        b'1' | b'H'..=b'J' => Start {
             form: TypeForm::MemberPointer,
             taken: 2,
         },
-        _ => TypeStart {
+        _ => Start {
             form: TypeForm::Plain,
             taken: 1,
         },
@@ -183,11 +168,11 @@ fn one_dollar(c: u8) -> TypeStart
 }
 
 // Behind `$`.
-fn start_behind_one(s: &[u8], at: usize) -> TypeStart
+fn start_behind_one(s: &[u8], at: usize) -> Start<TypeForm>
     ensures { result ≡ type_start (36 ∷ drop at s.now) }
 {
     if s.len() <= at {
-        return TypeStart {
+        return Start {
             form: TypeForm::Plain,
             taken: 1,
         };
@@ -201,11 +186,11 @@ fn start_behind_one(s: &[u8], at: usize) -> TypeStart
 }
 
 // Behind `P`.
-fn start_of_pointer(s: &[u8], at: usize) -> TypeStart
+fn start_of_pointer(s: &[u8], at: usize) -> Start<TypeForm>
     ensures { result ≡ type_start (80 ∷ drop at s.now) }
 {
     if consume(b"6", s, at) {
-        return TypeStart {
+        return Start {
             form: TypeForm::FunctionPtr,
             taken: 2,
         };
@@ -213,11 +198,11 @@ fn start_of_pointer(s: &[u8], at: usize) -> TypeStart
     start_if(b"8", s, at, TypeForm::MemberFunctionPtr, 2, 0)
 }
 
-pub fn type_start(s: &[u8], at: usize) -> TypeStart
+pub fn type_start(s: &[u8], at: usize) -> Start<TypeForm>
     ensures { result ≡ type_start (drop at s.now) }
 {
     if s.len() <= at {
-        return TypeStart {
+        return Start {
             form: TypeForm::Plain,
             taken: 0,
         };
@@ -228,7 +213,7 @@ pub fn type_start(s: &[u8], at: usize) -> TypeStart
         b'A' => start_if(b"6", s, at + 1, TypeForm::FunctionRef, 2, 0),
         b'P' => start_of_pointer(s, at + 1),
         b'$' => start_behind_one(s, at + 1),
-        _ => TypeStart {
+        _ => Start {
             form: TypeForm::Plain,
             taken: 0,
         },
@@ -236,71 +221,71 @@ pub fn type_start(s: &[u8], at: usize) -> TypeStart
 }
 
 // One letter.
-fn one_letter(c: u8) -> TypeLetter
+fn one_letter(c: u8) -> Option<TypeLetter>
     requires { c ≡ 95 → ⊥ }
-    ensures { (rest : List ℕ) → head result 1 ≡ type_letter (c ∷ rest) }
+    ensures { (rest : List ℕ) → start result 1 ≡ type_letter (c ∷ rest) }
 {
     match c {
-        b'?' => TypeLetter::Parameter,
-        b'T' => TypeLetter::Union,
-        b'U' => TypeLetter::Struct,
-        b'V' => TypeLetter::Class,
-        b'A' => TypeLetter::Ref,
-        b'B' => TypeLetter::VolatileRef,
-        b'P' => TypeLetter::Ptr,
-        b'Q' => TypeLetter::ConstPtr,
-        b'R' => TypeLetter::VolatilePtr,
-        b'S' => TypeLetter::ConstVolatilePtr,
-        b'Y' => TypeLetter::Array,
-        b'X' => TypeLetter::Basic(0),
-        b'D' => TypeLetter::Basic(2),
-        b'C' => TypeLetter::Basic(3),
-        b'E'..=b'K' => TypeLetter::Basic((c - 65) as u32),
-        b'M'..=b'O' => TypeLetter::Basic((c - 58) as u32),
-        _ => TypeLetter::Refused,
+        b'?' => Some(TypeLetter::Parameter),
+        b'T' => Some(TypeLetter::Union),
+        b'U' => Some(TypeLetter::Struct),
+        b'V' => Some(TypeLetter::Class),
+        b'A' => Some(TypeLetter::Ref),
+        b'B' => Some(TypeLetter::VolatileRef),
+        b'P' => Some(TypeLetter::Ptr),
+        b'Q' => Some(TypeLetter::ConstPtr),
+        b'R' => Some(TypeLetter::VolatilePtr),
+        b'S' => Some(TypeLetter::ConstVolatilePtr),
+        b'Y' => Some(TypeLetter::Array),
+        b'X' => Some(TypeLetter::Basic(0)),
+        b'D' => Some(TypeLetter::Basic(2)),
+        b'C' => Some(TypeLetter::Basic(3)),
+        b'E'..=b'K' => Some(TypeLetter::Basic((c - 65) as u32)),
+        b'M'..=b'O' => Some(TypeLetter::Basic((c - 58) as u32)),
+        _ => None,
     }
 }
 
 // The letter behind `_`.
-fn two_letters(c: u8) -> TypeLetter
-    ensures { (rest : List ℕ) → head result 2 ≡ type_letter (95 ∷ c ∷ rest) }
+fn two_letters(c: u8) -> Option<TypeLetter>
+    ensures { (rest : List ℕ) → start result 2 ≡ type_letter (95 ∷ c ∷ rest) }
 {
     match c {
-        b'N' => TypeLetter::Basic(1),
-        b'J'..=b'M' => TypeLetter::Basic((c - 63) as u32),
-        b'W' => TypeLetter::Basic(15),
-        b'Q' => TypeLetter::Basic(16),
-        b'S' => TypeLetter::Basic(17),
-        b'U' => TypeLetter::Basic(18),
-        _ => TypeLetter::Refused,
+        b'N' => Some(TypeLetter::Basic(1)),
+        b'J'..=b'M' => Some(TypeLetter::Basic((c - 63) as u32)),
+        b'W' => Some(TypeLetter::Basic(15)),
+        b'Q' => Some(TypeLetter::Basic(16)),
+        b'S' => Some(TypeLetter::Basic(17)),
+        b'U' => Some(TypeLetter::Basic(18)),
+        _ => None,
     }
 }
 
-pub fn type_letter(s: &[u8], at: usize) -> TypeHead
+pub fn type_letter(s: &[u8], at: usize) -> Start<Option<TypeLetter>>
     ensures { result ≡ type_letter (drop at s.now) }
 {
     if s.len() <= at {
-        return TypeHead {
-            letter: TypeLetter::Refused,
+        return Start {
+            form: None,
             taken: 0,
         };
     }
     let c = s[at];
     if c != b'_' {
-        return TypeHead {
-            letter: one_letter(c),
+        return Start {
+            form: one_letter(c),
             taken: 1,
         };
     }
     let next = at + 1;
     if next < s.len() {
-        TypeHead {
-            letter: two_letters(s[next]),
+        Start {
+            form: two_letters(s[next]),
             taken: 2,
         }
     } else {
-        TypeHead {
-            letter: TypeLetter::Refused,
+        Start {
+            form: None,
             taken: 1,
         }
     }
@@ -311,11 +296,8 @@ fn digit_behind(s: &[u8], at: usize, n: usize) -> Reference
     requires { at + n < 2 ^ 64 }
     ensures { result ≡ digit_behind n (drop at s.now) }
 {
-    let digit = read_digit(s, at + n);
-    match digit {
-        Found::Byte(d) => Reference::Stored(d as u32, n + 1),
-        Found::Nothing => Reference::Absent,
-    }
+    let d = read_digit(s, at + n)?;
+    Some((d as u32, n + 1))
 }
 
 // A digit that denotes a stored type, where a type is read: it opens no part, so it is looked for first.
@@ -330,10 +312,10 @@ pub fn type_reference(s: &[u8], at: usize) -> Reference
         return digit_behind(s, at, 3 + class.taken);
     }
     if consume(b"$0", s, at) {
-        return Reference::Absent;
+        return None;
     }
     if consume(b"$1", s, at) {
-        return Reference::Absent;
+        return None;
     }
     digit_behind(s, at, 1)
 }

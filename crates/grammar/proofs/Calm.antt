@@ -11,10 +11,8 @@ use mathlib.Core.Bool.{Bool, true, false}
 use native.Mathlib.Omega.{arith}
 use lib.ListN.{length, drop, length-drop}
 use Rattle.scan.specs.Bytes.{pick, bytes, starts}
-use Rattle.scan.specs.declared.cursor.Leaf.{Leaf}
-use Rattle.scan.specs.declared.cursor.Leaf.TheVariants.{Value, Bad}
-use Rattle.scan.specs.declared.cursor.Span.{Span}
-use Rattle.scan.specs.declared.cursor.Span.TheVariants as spans
+use Rattle.scan.specs.Cursor.{Leaf, Span}
+use Rattle.std.specs.Prelude.{Ok, Err}
 use Rattle.scan.proofs.Fits.{Fits}
 use Rattle.strings.proofs.Fit.{SpanFits}
 use Rattle.letters.specs.declared.Class.{Class}
@@ -115,16 +113,16 @@ starts-inside s at b i e = omega (arith, starts-fits (bytes b) (drop at s) e, le
 -- a leaf, by what it reads where so many bytes are left
 module _ {Tag : Type 0} (Ans : Tag → Type 0) (s : List ℕ) where
   leaf-quiet : (most : ℕ) (x : Leaf) (at left : ℕ) → at + left ≤ length s → Fits left x → Below most x → Quiet {Ans = Ans} s (λ v at'. v ≤ most) at (leaf_is x)
-  leaf-quiet most (Value v n) at left i h b = (omega arith, b)
-  leaf-quiet most (Bad n) at left i h b = (omega arith, tt)
+  leaf-quiet most (Ok (v, n)) at left i h b = (omega arith, b)
+  leaf-quiet most (Err n) at left i h b = (omega arith, tt)
 
   value-quiet : (x : Leaf) (at left : ℕ) → at + left ≤ length s → Fits left x → Quiet {Ans = Ans} s (λ v at'. Unit {0}) at (leaf_is x)
-  value-quiet (Value v n) at left i h = (omega arith, tt)
-  value-quiet (Bad n) at left i h = (omega arith, tt)
+  value-quiet (Ok (v, n)) at left i h = (omega arith, tt)
+  value-quiet (Err n) at left i h = (omega arith, tt)
 
   span-quiet : (x : Span) (at left : ℕ) → at + left ≤ length s → SpanFits left x → SpanLeast 1 x → Quiet {Ans = Ans} s (λ n at'. (1 ≤ n) × (at' ≡ at + n)) at (span_is x)
-  span-quiet (spans.Takes n) at left i h l = (omega arith, (l, refl))
-  span-quiet (spans.Bad n) at left i h l = (omega arith, tt)
+  span-quiet (Ok n) at left i h l = (omega arith, (l, refl))
+  span-quiet (Err n) at left i h l = (omega arith, tt)
 
 -- one rule for each word
 module _ {Tag : Type 0} {Ans : Tag → Type 0} {s : List ℕ} where

@@ -17,20 +17,18 @@ use Rattle.scan.specs.Bytes.{bytes}
 use Rattle.scan.specs.Number.{read_number, read_unsigned, read_guard_number}
 use Rattle.scan.specs.Name.{read_string, read_hex_digits, read_md5_name}
 use Rattle.scan.proofs.Fits.{number_fits}
-use Rattle.strings.specs.Encoded.{read_encoded_string}
-use Rattle.strings.specs.declared.encoded.Encoded.{Encoded}
-use Rattle.strings.specs.declared.encoded.Encoded.TheVariants as encoded
+use Rattle.strings.specs.Encoded.{read_encoded_string, Encoded}
+use Rattle.std.specs.Prelude.{Some, None}
+use Rattle.std.specs.Prelude as std
 use Rattle.letters.specs.StorageClass.{CONST, VOLATILE, PTR64}
 use Rattle.letters.specs.Classes.{read_calling_conv, read_func_class, read_storage_class, read_qualifier, read_storage_class_for_return, read_func_qualifiers, read_string_width, read_guard_marker}
 use Rattle.operators.specs.Operators.{read_operator}
-use Rattle.forms.specs.Types.{type_forms, type_letters, type_reference}
+use Rattle.forms.specs.Types.{type_forms, type_letters, type_reference, Reference}
 use Rattle.forms.specs.Begins.{parse_forms, symbol_forms, name_forms}
 use Rattle.forms.specs.declared.types.TypeForm.{TypeForm}
 use Rattle.forms.specs.declared.types.TypeForm.TheVariants as form
 use Rattle.forms.specs.declared.types.TypeLetter.{TypeLetter}
 use Rattle.forms.specs.declared.types.TypeLetter.TheVariants as letter
-use Rattle.forms.specs.declared.types.Reference.{Reference}
-use Rattle.forms.specs.declared.types.Reference.TheVariants as reference
 use Rattle.forms.specs.declared.begins.ParseForm.{ParseForm}
 use Rattle.forms.specs.declared.begins.ParseForm.TheVariants as parse
 use Rattle.forms.specs.declared.begins.SymbolForm.{SymbolForm}
@@ -177,8 +175,8 @@ module _ (x : Setting Asks Gives) (short : length x.symbol ≤ kind.any) where
   nesteds = digits name_of (λ i. widens in_scope (name-refs i) refl) (opens Nested tt)
 
   reference-ok : {w : World} (y : Reference) (sc : ℕ) → sc ≤ kind.class_most → w.state.at ≤ length x.symbol → ReferenceFits (length (drop w.state.at x.symbol)) y → Ok w 0 0 (reference_or y (part (VarType sc) ret)) (NodeIs a_type)
-  reference-ok {w} (reference.Stored d n) sc l i h = skips (omega (arith, length-drop w.state.at x.symbol)) (type-refs d)
-  reference-ok reference.Absent sc l i h = opens (VarType sc) l
+  reference-ok {w} (Some (d, n)) sc l i h = skips (omega (arith, length-drop w.state.at x.symbol)) (type-refs d)
+  reference-ok None sc l i h = opens (VarType sc) l
 
   var_types : {w : World} (sc : ℕ) → sc ≤ kind.class_most → Ok w 0 0 (var_type sc) (NodeIs a_type)
   var_types {w} sc l = inside (λ i. looks (reference-ok (type_reference (drop w.state.at x.symbol)) sc l i (reference-fits (drop w.state.at x.symbol))))
@@ -415,7 +413,6 @@ module _ (x : Setting Asks Gives) (short : length x.symbol ≤ kind.any) where
   is_basic n letter.ConstVolatilePtr = true
   is_basic n letter.Array = true
   is_basic n (letter.Basic k) = leb k 21
-  is_basic n letter.Refused = true
 
   letter-type-ok : {w : World} (sc : ℕ) → sc ≤ kind.class_most → (n : ℕ) (y : TypeLetter) → is_basic n y ≡ true → Ok w 1 0 (letter_type sc y) (NodeIs kind.var_type)
   unfolding letter_type
@@ -431,7 +428,6 @@ module _ (x : Setting Asks Gives) (short : length x.symbol ≤ kind.any) where
   letter-type-ok sc l m letter.ConstVolatilePtr e = pointing-ok Ptr (CONST + VOLATILE) refl refl refl (omega arith)
   letter-type-ok sc l m letter.Array e = array_ok
   letter-type-ok sc l m (letter.Basic k) e = basic-ok k sc (leb-true k 21 e) l
-  letter-type-ok sc l m letter.Refused e = fails
 
   no-letter-ok : {w : World} → Ok w 1 0 no_letter (NodeIs kind.var_type)
   no-letter-ok {w} = inside (λ i. looks (skips (omega (arith, length-drop w.state.at x.symbol)) fails))
@@ -467,8 +463,8 @@ module _ (x : Setting Asks Gives) (short : length x.symbol ≤ kind.any) where
   var-type-ok sc l = orders anything type_forms (form_type sc) refl (λ n y e. form-type-ok sc l y) (widens a_type (plain-type-ok sc l) refl)
 
   chars-ok : {w : World} (y : Encoded) → w.state.at ≤ length x.symbol → EncodedFits (length (drop w.state.at x.symbol)) y → Ok w 1 0 (chars_is w.state.at y) (NodeIs outer_types)
-  chars-ok {w} (encoded.Chars long start n) i h = skips (omega (arith, h.2, length-drop w.state.at x.symbol)) (shuts refl (empty refl) (omega (arith, h.1, h.2, length-drop w.state.at x.symbol)))
-  chars-ok {w} (encoded.Bad n) i h = skips (omega (arith, length-drop w.state.at x.symbol)) fails
+  chars-ok {w} (std.Ok c) i h = skips (omega (arith, h.2, length-drop w.state.at x.symbol)) (shuts refl (empty refl) (omega (arith, h.1, h.2, length-drop w.state.at x.symbol)))
+  chars-ok {w} (std.Err n) i h = skips (omega (arith, length-drop w.state.at x.symbol)) fails
 
   encoded-string-ok : {w : World} (width : ℕ) → Ok w 1 0 (encoded_string width) (NodeIs outer_types)
   unfolding encoded_string

@@ -20,10 +20,8 @@ use Rattle.grammar.proofs.Demands.{leb-not, reports, settles}
 use Rattle.grammar.proofs.Leaves.{Least, SpanLeast, least-none, at_least, at-least, number-least, unsigned-fits, unsigned-least, string-fits, string-least, hex-fits}
 use Rattle.scan.specs.Number.{read_number, read_unsigned}
 use Rattle.scan.specs.Name.{read_string, read_hex_digits}
-use Rattle.scan.specs.declared.cursor.Leaf.{Leaf}
-use Rattle.scan.specs.declared.cursor.Leaf.TheVariants.{Value, Bad}
-use Rattle.scan.specs.declared.cursor.Span.{Span}
-use Rattle.scan.specs.declared.cursor.Span.TheVariants as spans
+use Rattle.scan.specs.Cursor.{Leaf, Span}
+use Rattle.std.specs.Prelude.{Ok, Err}
 use Rattle.scan.proofs.Fits.{Fits, number_fits}
 use Rattle.strings.proofs.Fit.{SpanFits}
 use Rattle.letters.specs.declared.Class.{Class}
@@ -187,12 +185,12 @@ module _ {Tag : Type 0} {Ans : Tag → Type 0} (s : List ℕ) (promise : Tag →
 -- a leaf, by what it reads where so many bytes are left
 module _ {Tag : Type 0} (Ans : Tag → Type 0) (s : List ℕ) (promise : Tag → Promise) (c g : ℕ) where
   leaf-funded : (lo : ℕ) (x : Leaf) (at left : ℕ) → at + left ≤ length s → Fits left x → Least lo x → g ≤ c + 2 * lo → Funded {Ans = Ans} s promise at c g (leaf_is x)
-  leaf-funded lo (Value v n) at left i h m l = omega arith
-  leaf-funded lo (Bad n) at left i h m l = (omega arith, tt)
+  leaf-funded lo (Ok (v, n)) at left i h m l = omega arith
+  leaf-funded lo (Err n) at left i h m l = (omega arith, tt)
 
   span-funded : (lo : ℕ) (x : Span) (at left : ℕ) → at + left ≤ length s → SpanFits left x → SpanLeast lo x → g ≤ c + 2 * lo → Funded {Ans = Ans} s promise at c g (span_is x)
-  span-funded lo (spans.Takes n) at left i h m l = omega arith
-  span-funded lo (spans.Bad n) at left i h m l = (omega arith, tt)
+  span-funded lo (Ok n) at left i h m l = omega arith
+  span-funded lo (Err n) at left i h m l = (omega arith, tt)
 
 -- one rule for each word
 module _ {Tag : Type 0} {Ans : Tag → Type 0} {s : List ℕ} {promise : Tag → Promise} where

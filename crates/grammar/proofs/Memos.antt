@@ -13,12 +13,9 @@ use lib.Dec.{leb, eqb}
 use lib.ListN.{length, get_or, drop}
 use Rattle.scan.specs.Bytes.{pick, bytes, starts, is_digit}
 use Rattle.scan.specs.Cursor.{read_digit}
-use Rattle.scan.specs.declared.cursor.Found.{Found}
-use Rattle.scan.specs.declared.cursor.Found.TheVariants.{Byte}
-use Rattle.forms.specs.Types.{type_reference}
+use Rattle.std.specs.Prelude.{Option, Some}
+use Rattle.forms.specs.Types.{type_reference, Reference}
 use Rattle.forms.specs.Types as types
-use Rattle.forms.specs.declared.types.Reference.{Reference}
-use Rattle.forms.specs.declared.types.Reference.TheVariants.{Stored}
 use Rattle.grammar.specs.Program.{ret, part, sub, Reply, found, refused, Out, out, onward, Part, Shut, Same, run, at+, with}
 use Rattle.grammar.specs.Words.{byte_at, type_of}
 use Rattle.grammar.specs.Counts.{Node, made, deepens, closed, shut_nodes, shut_asking}
@@ -84,16 +81,16 @@ not-starts c [] (suc at) n h = refl
 not-starts c (x ∷ s) zero n h = no_other x c (eqb x c) refl h n
 not-starts c (x ∷ s) (suc at) n h = not-starts c s at n h
 
-read-digit : (s : List ℕ) (at : ℕ) → is_digit (byte_at s at) ≡ true → read_digit (drop at s) ≡ Byte (byte_at s at - code "0")
+read-digit : (s : List ℕ) (at : ℕ) → is_digit (byte_at s at) ≡ true → read_digit (drop at s) ≡ Some (byte_at s at - code "0")
 unfolding read_digit
 read-digit [] at h = true-false (sym h)
 read-digit (x ∷ s) zero h = rw h
 read-digit (x ∷ s) (suc at) h = read-digit s at h
 
 -- so a digit is a stored type
-pub digit-refers : (s : List ℕ) (at : ℕ) → is_digit (byte_at s at) ≡ true → type_reference (drop at s) ≡ Stored (byte_at s at - code "0") 1
+pub digit-refers : (s : List ℕ) (at : ℕ) → is_digit (byte_at s at) ≡ true → type_reference (drop at s) ≡ Some (byte_at s at - code "0", 1)
 unfolding type_reference
-digit-refers s at h = rw (not-starts (code "$") s at refl h) (ap (λ (x : Found). types.stored 0 x) (read-digit s at h))
+digit-refers s at h = rw (not-starts (code "$") s at refl h) (ap (λ (x : Option ℕ). types.stored 0 x) (read-digit s at h))
 
 module _ {T : Type 0} (s : List ℕ) (same : Same T) (shut : Shut T) (rec : Part Tag Ans T) where
   -- the memo of a template that answers is the one that it found
@@ -173,7 +170,7 @@ module _ {T : Type 0} (s : List ℕ) (same : Same T) (shut : Shut T) (rec : Part
     bad-params l turns last = rw (no-at, no-z, no_end, h, le-ltb i st.memo.types_len l)
 
   -- a stored type, also behind `$` and `$$C`
-  module _ (st : State) (t : T) (sc i n : ℕ) (e : type_reference (drop st.at s) ≡ Stored i n) where
+  module _ (st : State) (t : T) (sc i n : ℕ) (e : type_reference (drop st.at s) ≡ Some (i, n)) where
     stored-type : run s same shut rec (var_type sc) st t ≡ run s same shut rec (type_of i) (at+ n st) t
     unfolding run
     stored-type = ap (λ (x : Reference). run s same shut rec (reference_or x (part (VarType sc) ret)) st t) e

@@ -13,20 +13,17 @@ use lib.ListN.{length, drop, length-drop}
 use Rattle.scan.specs.Bytes.{bytes}
 use Rattle.scan.specs.Number.{read_guard_number}
 use Rattle.scan.specs.Name.{read_md5_name}
-use Rattle.strings.specs.Encoded.{read_encoded_string}
-use Rattle.strings.specs.declared.encoded.Encoded.{Encoded}
-use Rattle.strings.specs.declared.encoded.Encoded.TheVariants as encoded
+use Rattle.strings.specs.Encoded.{read_encoded_string, Encoded}
+use Rattle.std.specs.Prelude.{Ok, Err, Some, None}
 use Rattle.letters.specs.StorageClass.{CONST, VOLATILE}
 use Rattle.letters.specs.Classes.{read_calling_conv, read_func_class, read_storage_class, read_qualifier, read_storage_class_for_return, read_func_qualifiers, read_string_width, read_guard_marker}
 use Rattle.operators.specs.Operators.{read_operator}
-use Rattle.forms.specs.Types.{type_forms, type_letters, type_reference}
+use Rattle.forms.specs.Types.{type_forms, type_letters, type_reference, Reference}
 use Rattle.forms.specs.Begins.{parse_forms, symbol_forms, name_forms}
 use Rattle.forms.specs.declared.types.TypeForm.{TypeForm}
 use Rattle.forms.specs.declared.types.TypeForm.TheVariants as form
 use Rattle.forms.specs.declared.types.TypeLetter.{TypeLetter}
 use Rattle.forms.specs.declared.types.TypeLetter.TheVariants as letter
-use Rattle.forms.specs.declared.types.Reference.{Reference}
-use Rattle.forms.specs.declared.types.Reference.TheVariants as reference
 use Rattle.forms.specs.declared.begins.ParseForm.{ParseForm}
 use Rattle.forms.specs.declared.begins.ParseForm.TheVariants as parse
 use Rattle.forms.specs.declared.begins.SymbolForm.{SymbolForm}
@@ -108,8 +105,8 @@ module _ (s : List ℕ) where
 
   module _ (c g : ℕ) (l : g ≤ c + 1) where
     reference-earns : (x : Reference) (sc at : ℕ) → at ≤ length s → ReferenceFits (length (drop at s)) x → Funded s promise at c g (reference_or x (part (VarType sc) ret))
-    reference-earns (reference.Stored d n) sc at i h = (omega (arith, length-drop at s), (λ m. ((λ e. omega arith), (λ e. tt))))
-    reference-earns reference.Absent sc at i h = (omega arith, (λ a at' i'. omega arith))
+    reference-earns (Some (d, n)) sc at i h = (omega (arith, length-drop at s), (λ m. ((λ e. omega arith), (λ e. tt))))
+    reference-earns None sc at i h = (omega arith, (λ a at' i'. omega arith))
 
   pub var_types : (sc : ℕ) {c g : ℕ} → g ≤ c + 1 → Earns c g (var_type sc)
   var_types sc {c} {g} l = record { by = λ at i. reference-earns c g l (type_reference (drop at s)) sc at i (reference-fits (drop at s)) }
@@ -332,7 +329,6 @@ module _ (s : List ℕ) where
   letter-type-earns sc letter.ConstVolatilePtr = pointing-earns Ptr (CONST + VOLATILE)
   letter-type-earns sc letter.Array = less array-earns (omega arith)
   letter-type-earns sc (letter.Basic k) = shuts (omega arith)
-  letter-type-earns sc letter.Refused = fails
 
   no-letter-earns : {c g : ℕ} → Earns c g no_letter
   no-letter-earns = record { by = λ at i. (omega (arith, length-drop at s), tt) }
@@ -365,8 +361,8 @@ module _ (s : List ℕ) where
   var-type-earns sc = orders-all 1 type_forms (form_type sc) refl (form-type-earns sc) (plain-type-earns sc)
 
   chars-earns : (x : Encoded) (at : ℕ) → at ≤ length s → EncodedFits (length (drop at s)) x → Funded s promise at 0 1 (chars_is at x)
-  chars-earns (encoded.Chars long start n) at i h = (omega (arith, length-drop at s), (omega arith, (λ m at' i'. omega arith)))
-  chars-earns (encoded.Bad n) at i h = (omega (arith, length-drop at s), tt)
+  chars-earns (Ok c) at i h = (omega (arith, length-drop at s), (omega arith, (λ m at' i'. omega arith)))
+  chars-earns (Err n) at i h = (omega (arith, length-drop at s), tt)
 
   encoded-string-earns : (width : ℕ) → Earns 0 1 (encoded_string width)
   unfolding encoded_string

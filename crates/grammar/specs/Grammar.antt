@@ -3,25 +3,21 @@
 -- A reader that opens no part of its own (a list, a pointee, a template's inside) is called by its name.
 -- The tables of choices (type_forms, type_letters, symbol_forms, name_forms, parse_forms) stand in the crate `forms`, in the order in which the crate tries them.
 -- Assumes nothing: these are definitions.
-use Rattle.std.specs.Prelude.{ℕ, zero, suc, ◌+◌, ◌-◌, ◌/◌, ◌%◌, List, [], ◌∷◌, Bool, true, false, length, drop, ltb, eqb}
+use Rattle.std.specs.Prelude.{ℕ, zero, suc, ◌+◌, ◌-◌, ◌/◌, ◌%◌, List, [], ◌∷◌, Bool, true, false, length, drop, ltb, eqb, Ok, Err, Some, None}
 use Rattle.scan.specs.Bytes.{pick, bytes, starts, up_to}
 use Rattle.scan.specs.Number.{read_guard_number}
 use Rattle.scan.specs.Name.{read_md5_name}
-use Rattle.strings.specs.Encoded.{read_encoded_string}
-use Rattle.strings.specs.declared.encoded.Encoded.{Encoded}
-use Rattle.strings.specs.declared.encoded.Encoded.TheVariants as encoded
+use Rattle.strings.specs.Encoded.{read_encoded_string, Encoded}
 use Rattle.letters.specs.StorageClass.{CONST, VOLATILE, PTR64}
 use Rattle.letters.specs.Classes.{read_calling_conv, read_func_class, read_storage_class, read_qualifier, read_storage_class_for_return, read_func_qualifiers, read_string_width, read_guard_marker}
 use Rattle.letters.specs.FuncClass.{STATIC}
 use Rattle.operators.specs.Operators.{read_operator, LocalStaticGuard, LocalStaticThreadGuard, RTTITypeDescriptor, RTTIBaseClassDescriptor}
-use Rattle.forms.specs.Types.{type_forms, type_letters, type_reference}
+use Rattle.forms.specs.Types.{type_forms, type_letters, type_reference, Reference}
 use Rattle.forms.specs.Begins.{parse_forms, symbol_forms, name_forms}
 use Rattle.forms.specs.declared.types.TypeForm.{TypeForm}
 use Rattle.forms.specs.declared.types.TypeForm.TheVariants as form
 use Rattle.forms.specs.declared.types.TypeLetter.{TypeLetter}
 use Rattle.forms.specs.declared.types.TypeLetter.TheVariants as letter
-use Rattle.forms.specs.declared.types.Reference.{Reference}
-use Rattle.forms.specs.declared.types.Reference.TheVariants as reference
 use Rattle.forms.specs.declared.begins.ParseForm.{ParseForm}
 use Rattle.forms.specs.declared.begins.ParseForm.TheVariants as parse
 use Rattle.forms.specs.declared.begins.SymbolForm.{SymbolForm}
@@ -107,8 +103,8 @@ nested_name = digit name_of (part Nested ret)
 
 -- read_var_type(sc), as it is called: where it comes to a stored type it opens no part
 abbrev pub reference_or : Reference → Reading ℕ → Reading ℕ
-reference_or (reference.Stored i n) p = skip n (type_of i)
-reference_or reference.Absent p = p
+reference_or (Some (i, n)) p = skip n (type_of i)
+reference_or None p = p
 
 abbrev pub var_type : ℕ → Reading ℕ
 var_type sc = look λ s at. reference_or (type_reference (drop at s)) (part (VarType sc) ret)
@@ -390,8 +386,8 @@ letter_type sc letter.VolatilePtr = pointing Ptr VOLATILE
 letter_type sc letter.ConstVolatilePtr = pointing Ptr (CONST + VOLATILE)
 letter_type sc letter.Array = array
 letter_type sc (letter.Basic k) = close (Basic k) (sc ∷ []) []
+
 -- not reached: type_letters has no such entry, and plain_type's last choice is no_letter
-letter_type sc letter.Refused = fail
 
 -- another letter is taken, and behind `_` the next one too
 abbrev pub no_letter : Reading ℕ
@@ -437,8 +433,8 @@ var_type_body sc = ordered type_forms (form_type sc) (plain_type sc)
 
 -- read_encoded_string: the node has the range of the characters
 abbrev pub chars_is : ℕ → Encoded → Reading ℕ
-chars_is at (encoded.Chars length start taken) = skip taken (close ConstantString ((at + start) ∷ (taken - start) ∷ []) [])
-chars_is at (encoded.Bad n) = skip n fail
+chars_is at (Ok c) = skip c.taken (close ConstantString ((at + c.start) ∷ (c.taken - c.start) ∷ []) [])
+chars_is at (Err n) = skip n fail
 
 unfoldable pub encoded_string : ℕ → Reading ℕ
 encoded_string width = look λ s at. chars_is at (read_encoded_string width (drop at s))

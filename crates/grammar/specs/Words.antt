@@ -4,16 +4,13 @@
 --     expect "@"        self.expect(b"@")?
 -- Leaves are what the lower crates read, as functions of what remains.
 -- Assumes nothing: these are definitions.
-use Rattle.std.specs.Prelude.{ℕ, ◌-◌, ◌%◌, List, [], ◌∷◌, Bool, length, get_or, drop, ltb, leb}
+use Rattle.std.specs.Prelude.{ℕ, ◌-◌, ◌%◌, List, [], ◌∷◌, Bool, length, get_or, drop, ltb, leb, Ok, Err}
 use Prim.Native.String.{String}
 use Prim.Native.Char.{code}
 use Rattle.scan.specs.Bytes.{bytes, starts, is_digit}
 use Rattle.scan.specs.Number.{read_number, read_unsigned}
 use Rattle.scan.specs.Name.{read_string, read_hex_digits}
-use Rattle.scan.specs.declared.cursor.Leaf.{Leaf}
-use Rattle.scan.specs.declared.cursor.Leaf.TheVariants.{Value, Bad}
-use Rattle.scan.specs.declared.cursor.Span.{Span}
-use Rattle.scan.specs.declared.cursor.Span.TheVariants as spans
+use Rattle.scan.specs.Cursor.{Leaf, Span}
 use Rattle.letters.specs.declared.Class.{Class}
 use Rattle.grammar.specs.Program.{names, types, Program, ret, fail, look, when, skip, recall, keep, store, sub}
 use Rattle.grammar.specs.declared.Memo.{Memo}
@@ -57,16 +54,16 @@ module _ {Tag : Type 0} {Ans : Tag → Type 0} where
 
   -- a value that what remains decides by itself, and the bytes that it takes, also before a refusal
   abbrev pub leaf_is : Leaf → Program Tag Ans ℕ
-  leaf_is (Value v n) = skip n (ret v)
-  leaf_is (Bad n) = skip n fail
+  leaf_is (Ok (v, n)) = skip n (ret v)
+  leaf_is (Err n) = skip n fail
 
   abbrev pub leaf : (List ℕ → Leaf) → Program Tag Ans ℕ
   leaf f = look λ s at. leaf_is (f (drop at s))
 
   -- the same where the bytes themselves are the value: how many are taken
   abbrev pub span_is : Span → Program Tag Ans ℕ
-  span_is (spans.Takes n) = skip n (ret n)
-  span_is (spans.Bad n) = skip n fail
+  span_is (Ok n) = skip n (ret n)
+  span_is (Err n) = skip n fail
 
   abbrev pub span : (List ℕ → Span) → Program Tag Ans ℕ
   span f = look λ s at. span_is (f (drop at s))

@@ -1,22 +1,17 @@
 -- The forms that productions begin with, by number. Assumes nothing: these are definitions.
-use Rattle.std.specs.Prelude.{ℕ, ◌+◌}
+use Rattle.std.specs.Prelude.{ℕ, ◌+◌, Option, Some, None}
 use Rattle.forms.specs.declared.types.TypeForm.{TypeForm}
 use Rattle.forms.specs.declared.types.TypeForm.TheVariants as type
-use Rattle.forms.specs.declared.types.TypeStart.{TypeStart}
+use Rattle.forms.specs.declared.start.Start.{Start}
 use Rattle.forms.specs.declared.types.TypeLetter.{TypeLetter}
 use Rattle.forms.specs.declared.types.TypeLetter.TheVariants as letter
-use Rattle.forms.specs.declared.types.TypeHead.{TypeHead}
-use Rattle.forms.specs.declared.types.Reference.{Reference}
-use Rattle.forms.specs.declared.types.Reference.TheVariants as reference
+use Rattle.forms.specs.Types.{Reference}
 use Rattle.forms.specs.declared.begins.ParseForm.{ParseForm}
 use Rattle.forms.specs.declared.begins.ParseForm.TheVariants as parse
-use Rattle.forms.specs.declared.begins.ParseStart.{ParseStart}
 use Rattle.forms.specs.declared.begins.SymbolForm.{SymbolForm}
 use Rattle.forms.specs.declared.begins.SymbolForm.TheVariants as symbol
-use Rattle.forms.specs.declared.begins.SymbolStart.{SymbolStart}
 use Rattle.forms.specs.declared.begins.NameForm.{NameForm}
 use Rattle.forms.specs.declared.begins.NameForm.TheVariants as name
-use Rattle.forms.specs.declared.begins.NameStart.{NameStart}
 use Rattle.leaf_call.specs.declared.reply.Reply.{Reply}
 use Rattle.leaf_call.specs.Answers.{accepted, refusal}
 
@@ -38,31 +33,34 @@ type_form type.Reclassed = 13
 type_form type.MemberPointer = 14
 type_form type.Plain = 15
 
-abbrev pub of_type_start : TypeStart → Reply
+abbrev pub of_type_start : Start TypeForm → Reply
 of_type_start a = accepted (type_form a.form) a.taken
 
 -- a basic type is 32 more than its place
-abbrev pub lettered : ℕ → TypeLetter → Reply
-lettered n letter.Parameter = accepted 0 n
-lettered n letter.Union = accepted 2 n
-lettered n letter.Struct = accepted 3 n
-lettered n letter.Class = accepted 4 n
-lettered n letter.Ref = accepted 5 n
-lettered n letter.VolatileRef = accepted 6 n
-lettered n letter.Ptr = accepted 7 n
-lettered n letter.ConstPtr = accepted 8 n
-lettered n letter.VolatilePtr = accepted 9 n
-lettered n letter.ConstVolatilePtr = accepted 10 n
-lettered n letter.Array = accepted 11 n
-lettered n (letter.Basic k) = accepted (32 + k) n
-lettered n letter.Refused = refusal 3 n
+abbrev pub letter_number : TypeLetter → ℕ
+letter_number letter.Parameter = 0
+letter_number letter.Union = 2
+letter_number letter.Struct = 3
+letter_number letter.Class = 4
+letter_number letter.Ref = 5
+letter_number letter.VolatileRef = 6
+letter_number letter.Ptr = 7
+letter_number letter.ConstPtr = 8
+letter_number letter.VolatilePtr = 9
+letter_number letter.ConstVolatilePtr = 10
+letter_number letter.Array = 11
+letter_number (letter.Basic k) = 32 + k
 
-abbrev pub of_type_head : TypeHead → Reply
-of_type_head a = lettered a.taken a.letter
+abbrev pub lettered : ℕ → Option TypeLetter → Reply
+lettered n (Some l) = accepted (letter_number l) n
+lettered n None = refusal 3 n
+
+abbrev pub of_type_head : Start (Option TypeLetter) → Reply
+of_type_head a = lettered a.taken a.form
 
 abbrev pub of_reference : Reference → Reply
-of_reference (reference.Stored d n) = accepted d n
-of_reference reference.Absent = refusal 3 0
+of_reference (Some (d, n)) = accepted d n
+of_reference None = refusal 3 0
 
 abbrev pub parse_form : ParseForm → ℕ
 parse_form parse.Md5 = 0
@@ -70,7 +68,7 @@ parse_form parse.Guard = 1
 parse_form parse.Template = 2
 parse_form parse.Name = 3
 
-abbrev pub of_parse_start : ParseStart → Reply
+abbrev pub of_parse_start : Start ParseForm → Reply
 of_parse_start a = accepted (parse_form a.form) a.taken
 
 -- a variable is its kind
@@ -86,7 +84,7 @@ symbol_form symbol.Function = 11
 symbol_form symbol.Member = 12
 symbol_form symbol.Nothing = 13
 
-abbrev pub of_symbol_start : SymbolStart → Reply
+abbrev pub of_symbol_start : Start SymbolForm → Reply
 of_symbol_start a = accepted (symbol_form a.form) a.taken
 
 -- a stored name is 32 more than its digit
@@ -100,5 +98,5 @@ name_form name.Interface = 5
 name_form name.Discriminator = 6
 name_form name.Plain = 7
 
-abbrev pub of_name_start : NameStart → Reply
+abbrev pub of_name_start : Start NameForm → Reply
 of_name_start a = accepted (name_form a.form) a.taken

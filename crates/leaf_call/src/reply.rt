@@ -3,7 +3,7 @@ ghost use Rattle.std.specs.Prelude.{◌≡◌};
 ghost use Rattle.leaf_call.specs.Answers.{accepted, refusal, of_found, of_span, of_leaf, of_class, of_encoded};
 
 use letters::Class;
-use scan::cursor::{Found, Leaf, Span};
+use scan::cursor::{Leaf, Span};
 use strings::encoded::Encoded;
 
 // The scope's number (0 or 3; 7 for no such leaf), the bytes taken by then, the value, and where a string's characters start.
@@ -37,12 +37,12 @@ pub fn refused(number: u32, taken: usize) -> Reply
     }
 }
 
-pub fn of_found(a: Found) -> Reply
+pub fn of_found(a: Option<u8>) -> Reply
     ensures { result ≡ of_found a }
 {
     match a {
-        Found::Byte(b) => accepted_as(b as usize, 1),
-        Found::Nothing => refused(3, 0),
+        Some(b) => accepted_as(b as usize, 1),
+        None => refused(3, 0),
     }
 }
 
@@ -51,14 +51,14 @@ pub fn of_span(a: Span) -> Reply
     ensures { result ≡ of_span a }
 {
     match a {
-        Span::Takes(n) => {
+        Ok(n) => {
             if n == 0 {
                 accepted_as(0, 0)
             } else {
                 accepted_as(n - 1, n)
             }
         }
-        Span::Bad(n) => refused(3, n),
+        Err(n) => refused(3, n),
     }
 }
 
@@ -72,8 +72,8 @@ pub fn of_leaf(a: Leaf) -> Reply
     ensures { result ≡ of_leaf a }
 {
     match a {
-        Leaf::Value(v, n) => accepted_as(v as usize, n),
-        Leaf::Bad(n) => refused(3, n),
+        Ok((v, n)) => accepted_as(v as usize, n),
+        Err(n) => refused(3, n),
     }
 }
 
@@ -87,16 +87,12 @@ pub fn of_encoded(a: Encoded) -> Reply
     ensures { result ≡ of_encoded a }
 {
     match a {
-        Encoded::Chars {
-            length,
-            start,
-            taken,
-        } => Reply {
+        Ok(c) => Reply {
             number: 0,
-            taken,
-            value: length as usize,
-            start,
+            taken: c.taken,
+            value: c.length as usize,
+            start: c.start,
         },
-        Encoded::Bad(n) => refused(3, n),
+        Err(n) => refused(3, n),
     }
 }

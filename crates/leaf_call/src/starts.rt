@@ -1,10 +1,11 @@
 // What productions begin with, by the number of the form.
 ghost use Rattle.std.specs.Prelude.{◌≡◌};
-ghost use Rattle.leaf_call.specs.Starts.{type_form, of_type_start, of_type_head, of_reference, of_parse_start, of_symbol_start, of_name_start};
+ghost use Rattle.leaf_call.specs.Starts.{type_form, letter_number, of_type_start, of_type_head, of_reference, of_parse_start, of_symbol_start, of_name_start};
 
 use crate::reply::{Reply, accepted_as, refused};
-use forms::begins::{NameForm, NameStart, ParseForm, ParseStart, SymbolForm, SymbolStart};
-use forms::types::{Reference, TypeForm, TypeHead, TypeLetter, TypeStart};
+use forms::begins::{NameForm, ParseForm, SymbolForm};
+use forms::start::Start;
+use forms::types::{Reference, TypeForm, TypeLetter};
 
 fn type_form_number(f: TypeForm) -> usize
     ensures { result ≡ type_form f }
@@ -29,32 +30,39 @@ fn type_form_number(f: TypeForm) -> usize
     }
 }
 
-pub fn of_type_start(a: TypeStart) -> Reply
+pub fn of_type_start(a: Start<TypeForm>) -> Reply
     ensures { result ≡ of_type_start a }
 {
     let f = a.form;
     accepted_as(type_form_number(f), a.taken)
 }
 
-pub fn of_type_head(a: TypeHead) -> Reply
+fn letter_number(l: TypeLetter) -> usize
+    ensures { result ≡ letter_number l }
+{
+    match l {
+        TypeLetter::Parameter => 0,
+        TypeLetter::Union => 2,
+        TypeLetter::Struct => 3,
+        TypeLetter::Class => 4,
+        TypeLetter::Ref => 5,
+        TypeLetter::VolatileRef => 6,
+        TypeLetter::Ptr => 7,
+        TypeLetter::ConstPtr => 8,
+        TypeLetter::VolatilePtr => 9,
+        TypeLetter::ConstVolatilePtr => 10,
+        TypeLetter::Array => 11,
+        TypeLetter::Basic(k) => 32 + (k as usize),
+    }
+}
+
+pub fn of_type_head(a: Start<Option<TypeLetter>>) -> Reply
     ensures { result ≡ of_type_head a }
 {
-    let l = a.letter;
-    let n = a.taken;
+    let l = a.form;
     match l {
-        TypeLetter::Parameter => accepted_as(0, n),
-        TypeLetter::Union => accepted_as(2, n),
-        TypeLetter::Struct => accepted_as(3, n),
-        TypeLetter::Class => accepted_as(4, n),
-        TypeLetter::Ref => accepted_as(5, n),
-        TypeLetter::VolatileRef => accepted_as(6, n),
-        TypeLetter::Ptr => accepted_as(7, n),
-        TypeLetter::ConstPtr => accepted_as(8, n),
-        TypeLetter::VolatilePtr => accepted_as(9, n),
-        TypeLetter::ConstVolatilePtr => accepted_as(10, n),
-        TypeLetter::Array => accepted_as(11, n),
-        TypeLetter::Basic(k) => accepted_as(32 + (k as usize), n),
-        TypeLetter::Refused => refused(3, n),
+        Some(l) => accepted_as(letter_number(l), a.taken),
+        None => refused(3, a.taken),
     }
 }
 
@@ -62,12 +70,12 @@ pub fn of_reference(a: Reference) -> Reply
     ensures { result ≡ of_reference a }
 {
     match a {
-        Reference::Stored(d, n) => accepted_as(d as usize, n),
-        Reference::Absent => refused(3, 0),
+        Some((d, n)) => accepted_as(d as usize, n),
+        None => refused(3, 0),
     }
 }
 
-pub fn of_parse_start(a: ParseStart) -> Reply
+pub fn of_parse_start(a: Start<ParseForm>) -> Reply
     ensures { result ≡ of_parse_start a }
 {
     let f = a.form;
@@ -80,7 +88,7 @@ pub fn of_parse_start(a: ParseStart) -> Reply
     }
 }
 
-pub fn of_symbol_start(a: SymbolStart) -> Reply
+pub fn of_symbol_start(a: Start<SymbolForm>) -> Reply
     ensures { result ≡ of_symbol_start a }
 {
     let f = a.form;
@@ -99,7 +107,7 @@ pub fn of_symbol_start(a: SymbolStart) -> Reply
     }
 }
 
-pub fn of_name_start(a: NameStart) -> Reply
+pub fn of_name_start(a: Start<NameForm>) -> Reply
     ensures { result ≡ of_name_start a }
 {
     let f = a.form;

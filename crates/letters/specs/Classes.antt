@@ -1,14 +1,13 @@
 -- Letters that name a convention, a class or qualifiers: each has one stated outcome. Values are the crate's bits and the places of its enums.
 -- Assumes nothing: these are definitions.
-use Rattle.std.specs.Prelude.{ℕ, ◌+◌, List, [], ◌∷◌, drop, leb}
+use Rattle.std.specs.Prelude.{ℕ, ◌+◌, List, [], ◌∷◌, drop, leb, Ok, Err}
 use Prim.Native.Char.{code}
 use Prim.Native.String.{String}
 use Rattle.scan.specs.Bytes.{pick, bytes, starts, spelled, up_to}
 use Rattle.scan.specs.Number.{read_number}
 use Rattle.letters.specs.StorageClass.{CONST, VOLATILE, FAR, UNALIGNED, RESTRICT, PTR64, LVALUE_QUAL, RVALUE_QUAL}
 use Rattle.letters.specs.FuncClass as func
-use Rattle.scan.specs.declared.cursor.Leaf.{Leaf}
-use Rattle.scan.specs.declared.cursor.Leaf.TheVariants.{Value, Bad}
+use Rattle.scan.specs.Cursor.{Leaf, value}
 use Rattle.letters.specs.declared.Class.{Class}
 
 abbrev pub Cdecl : ℕ
@@ -31,7 +30,7 @@ abbrev pub conventions : List (String × ℕ)
 conventions = ("A", Cdecl) ∷ ("B", Cdecl) ∷ ("C", Pascal) ∷ ("E", Thiscall) ∷ ("G", Stdcall) ∷ ("I", Fastcall) ∷ []
 
 unfoldable pub read_calling_conv : List ℕ → Leaf
-read_calling_conv r = spelled Value conventions (Bad (up_to 1 r)) r
+read_calling_conv r = spelled value conventions (Err (up_to 1 r)) r
 
 -- the letter of read_func_class; D and F lack FAR, as in the crate
 abbrev pub func_classes : List (String × ℕ)
@@ -51,16 +50,16 @@ func_classes =
     ∷ ("Y", func.GLOBAL) ∷ ("Z", func.GLOBAL + func.FAR) ∷ []
 
 unfoldable pub func_class_letter : List ℕ → Leaf
-func_class_letter r = spelled Value func_classes (Bad (up_to 1 r)) r
+func_class_letter r = spelled value func_classes (Err (up_to 1 r)) r
 
 -- read_func_class: a thunk reads an adjustment behind its letter, and no other class does
 abbrev pub adjusted : ℕ → Leaf → Leaf
-adjusted bits (Value v n) = Value bits (n + 1)
-adjusted bits (Bad n) = Bad (n + 1)
+adjusted bits (Ok (v, n)) = Ok (bits, n + 1)
+adjusted bits (Err n) = Err (n + 1)
 
 abbrev pub classed : List ℕ → Leaf → Leaf
-classed rest (Value bits n) = pick (leb func.THUNK bits) (adjusted bits (read_number rest)) (Value bits n)
-classed rest (Bad n) = Bad n
+classed rest (Ok (bits, n)) = pick (leb func.THUNK bits) (adjusted bits (read_number rest)) (Ok (bits, n))
+classed rest (Err n) = Err n
 
 unfoldable pub read_func_class : List ℕ → Leaf
 read_func_class r = classed (drop 1 r) (func_class_letter r)
@@ -93,7 +92,7 @@ return_classes =
     ("?A", 0) ∷ ("?B", CONST) ∷ ("?C", VOLATILE) ∷ ("?D", CONST + VOLATILE) ∷ []
 
 unfoldable pub read_storage_class_for_return : List ℕ → Leaf
-read_storage_class_for_return r = spelled Value return_classes (pick (starts (bytes "?") r) (Bad (up_to 2 r)) (Value 0 0)) r
+read_storage_class_for_return r = spelled value return_classes (pick (starts (bytes "?") r) (Err (up_to 2 r)) (Ok (0, 0))) r
 
 -- read_func_qualifiers: each of these may be missing, and the next is looked for behind it
 infixr 20 ◌then◌
@@ -122,11 +121,11 @@ abbrev pub string_widths : List (String × ℕ)
 string_widths = ("0", 1) ∷ ("1", 2) ∷ []
 
 unfoldable pub read_string_width : List ℕ → Leaf
-read_string_width r = spelled Value string_widths (Bad (up_to 1 r)) r
+read_string_width r = spelled value string_widths (Err (up_to 1 r)) r
 
 -- parse, behind the name of a guard: whether it is visible
 abbrev pub guard_markers : List (String × ℕ)
 guard_markers = ("4IA", 0) ∷ ("5", 1) ∷ []
 
 unfoldable pub read_guard_marker : List ℕ → Leaf
-read_guard_marker r = spelled Value guard_markers (Bad 0) r
+read_guard_marker r = spelled value guard_markers (Err 0) r

@@ -26,12 +26,12 @@ fn calling_conv(c: u8) -> Leaf
     ensures { (rest : List ℕ) → result ≡ read_calling_conv (c ∷ rest) }
 {
     match c {
-        b'A'..=b'B' => Leaf::Value(CDECL, 1),
-        b'C' => Leaf::Value(PASCAL, 1),
-        b'E' => Leaf::Value(THISCALL, 1),
-        b'G' => Leaf::Value(STDCALL, 1),
-        b'I' => Leaf::Value(FASTCALL, 1),
-        _ => Leaf::Bad(1),
+        b'A'..=b'B' => Ok((CDECL, 1)),
+        b'C' => Ok((PASCAL, 1)),
+        b'E' => Ok((THISCALL, 1)),
+        b'G' => Ok((STDCALL, 1)),
+        b'I' => Ok((FASTCALL, 1)),
+        _ => Err(1),
     }
 }
 
@@ -41,7 +41,7 @@ pub fn read_calling_conv(s: &[u8], at: usize) -> Leaf
     if at < s.len() {
         calling_conv(s[at])
     } else {
-        Leaf::Bad(0)
+        Err(0)
     }
 }
 
@@ -49,31 +49,31 @@ fn func_class(c: u8) -> Leaf
     ensures { (rest : List ℕ) → result ≡ func_class_letter (c ∷ rest) }
 {
     match c {
-        b'A' => Leaf::Value(PRIVATE, 1),
-        b'B' => Leaf::Value(PRIVATE | FAR, 1),
-        b'C'..=b'D' => Leaf::Value(PRIVATE | STATIC, 1),
-        b'E'..=b'F' => Leaf::Value(PRIVATE | VIRTUAL, 1),
-        b'G' => Leaf::Value(PRIVATE | VIRTUAL | THUNK, 1),
-        b'H' => Leaf::Value(PRIVATE | VIRTUAL | FAR | THUNK, 1),
-        b'I' => Leaf::Value(PROTECTED, 1),
-        b'J' => Leaf::Value(PROTECTED | FAR, 1),
-        b'K' => Leaf::Value(PROTECTED | STATIC, 1),
-        b'L' => Leaf::Value(PROTECTED | STATIC | FAR, 1),
-        b'M' => Leaf::Value(PROTECTED | VIRTUAL, 1),
-        b'N' => Leaf::Value(PROTECTED | VIRTUAL | FAR, 1),
-        b'O' => Leaf::Value(PROTECTED | VIRTUAL | THUNK, 1),
-        b'P' => Leaf::Value(PROTECTED | VIRTUAL | FAR | THUNK, 1),
-        b'Q' => Leaf::Value(PUBLIC, 1),
-        b'R' => Leaf::Value(PUBLIC | FAR, 1),
-        b'S' => Leaf::Value(PUBLIC | STATIC, 1),
-        b'T' => Leaf::Value(PUBLIC | STATIC | FAR, 1),
-        b'U' => Leaf::Value(PUBLIC | VIRTUAL, 1),
-        b'V' => Leaf::Value(PUBLIC | VIRTUAL | FAR, 1),
-        b'W' => Leaf::Value(PUBLIC | VIRTUAL | THUNK, 1),
-        b'X' => Leaf::Value(PUBLIC | VIRTUAL | FAR | THUNK, 1),
-        b'Y' => Leaf::Value(GLOBAL, 1),
-        b'Z' => Leaf::Value(GLOBAL | FAR, 1),
-        _ => Leaf::Bad(1),
+        b'A' => Ok((PRIVATE, 1)),
+        b'B' => Ok((PRIVATE | FAR, 1)),
+        b'C'..=b'D' => Ok((PRIVATE | STATIC, 1)),
+        b'E'..=b'F' => Ok((PRIVATE | VIRTUAL, 1)),
+        b'G' => Ok((PRIVATE | VIRTUAL | THUNK, 1)),
+        b'H' => Ok((PRIVATE | VIRTUAL | FAR | THUNK, 1)),
+        b'I' => Ok((PROTECTED, 1)),
+        b'J' => Ok((PROTECTED | FAR, 1)),
+        b'K' => Ok((PROTECTED | STATIC, 1)),
+        b'L' => Ok((PROTECTED | STATIC | FAR, 1)),
+        b'M' => Ok((PROTECTED | VIRTUAL, 1)),
+        b'N' => Ok((PROTECTED | VIRTUAL | FAR, 1)),
+        b'O' => Ok((PROTECTED | VIRTUAL | THUNK, 1)),
+        b'P' => Ok((PROTECTED | VIRTUAL | FAR | THUNK, 1)),
+        b'Q' => Ok((PUBLIC, 1)),
+        b'R' => Ok((PUBLIC | FAR, 1)),
+        b'S' => Ok((PUBLIC | STATIC, 1)),
+        b'T' => Ok((PUBLIC | STATIC | FAR, 1)),
+        b'U' => Ok((PUBLIC | VIRTUAL, 1)),
+        b'V' => Ok((PUBLIC | VIRTUAL | FAR, 1)),
+        b'W' => Ok((PUBLIC | VIRTUAL | THUNK, 1)),
+        b'X' => Ok((PUBLIC | VIRTUAL | FAR | THUNK, 1)),
+        b'Y' => Ok((GLOBAL, 1)),
+        b'Z' => Ok((GLOBAL | FAR, 1)),
+        _ => Err(1),
     }
 }
 
@@ -84,8 +84,8 @@ fn read_adjustment(s: &[u8], at: usize, bits: u32) -> Leaf
 {
     let number = read_number(s, at);
     match number {
-        Leaf::Value(_, n) => Leaf::Value(bits, n + 1),
-        Leaf::Bad(n) => Leaf::Bad(n + 1),
+        Ok((_, n)) => Ok((bits, n + 1)),
+        Err(n) => Err(n + 1),
     }
 }
 
@@ -93,18 +93,18 @@ pub fn read_func_class(s: &[u8], at: usize) -> Leaf
     ensures { result ≡ read_func_class (drop at s.now) }
 {
     if s.len() <= at {
-        return Leaf::Bad(0);
+        return Err(0);
     }
     let letter = func_class(s[at]);
     match letter {
-        Leaf::Value(bits, n) => {
+        Ok((bits, n)) => {
             if THUNK <= bits {
                 read_adjustment(s, at + 1, bits)
             } else {
-                Leaf::Value(bits, n)
+                Ok((bits, n))
             }
         }
-        Leaf::Bad(n) => Leaf::Bad(n),
+        Err(n) => Err(n),
     }
 }
 
@@ -166,8 +166,8 @@ fn return_class(c: u8) -> Leaf
     ensures { (rest : List ℕ) → result ≡ read_storage_class_for_return (63 ∷ c ∷ rest) }
 {
     match c {
-        b'A'..=b'D' => Leaf::Value((c - b'A') as u32, 2),
-        _ => Leaf::Bad(2),
+        b'A'..=b'D' => Ok(((c - b'A') as u32, 2)),
+        _ => Err(2),
     }
 }
 
@@ -175,16 +175,16 @@ pub fn read_storage_class_for_return(s: &[u8], at: usize) -> Leaf
     ensures { result ≡ read_storage_class_for_return (drop at s.now) }
 {
     if s.len() <= at {
-        return Leaf::Value(0, 0);
+        return Ok((0, 0));
     }
     if s[at] != b'?' {
-        return Leaf::Value(0, 0);
+        return Ok((0, 0));
     }
     let next = at + 1;
     if next < s.len() {
         return_class(s[next])
     } else {
-        Leaf::Bad(1)
+        Err(1)
     }
 }
 
@@ -248,8 +248,8 @@ fn string_width(c: u8) -> Leaf
     ensures { (rest : List ℕ) → result ≡ read_string_width (c ∷ rest) }
 {
     match c {
-        b'0'..=b'1' => Leaf::Value((c - 47) as u32, 1),
-        _ => Leaf::Bad(1),
+        b'0'..=b'1' => Ok(((c - 47) as u32, 1)),
+        _ => Err(1),
     }
 }
 
@@ -260,7 +260,7 @@ pub fn read_string_width(s: &[u8], at: usize) -> Leaf
     if at < s.len() {
         string_width(s[at])
     } else {
-        Leaf::Bad(0)
+        Err(0)
     }
 }
 
@@ -269,11 +269,11 @@ pub fn read_guard_marker(s: &[u8], at: usize) -> Leaf
     ensures { result ≡ read_guard_marker (drop at s.now) }
 {
     if consume(b"4IA", s, at) {
-        return Leaf::Value(0, 3);
+        return Ok((0, 3));
     }
     if consume(b"5", s, at) {
-        Leaf::Value(1, 1)
+        Ok((1, 1))
     } else {
-        Leaf::Bad(0)
+        Err(0)
     }
 }

@@ -1,12 +1,11 @@
 -- What a node means: a tree that shows no node's number and no place in the symbol. Equal trees are equal values of the crate's types.
 -- Assumes nothing: these are definitions.
-use Rattle.std.specs.Prelude.{ℕ, zero, suc, ◌+◌, Bool, true, false, cond, ◌&&◌, List, [], ◌∷◌, eqb, leb, length, take, drop}
+use Rattle.std.specs.Prelude.{ℕ, zero, suc, ◌+◌, Bool, true, false, cond, ◌&&◌, List, [], ◌∷◌, eqb, leb, length, take, drop, Ok, Err}
 use Rattle.node.specs.Cells as cells
 use Rattle.node.specs.Cells.{cell_of}
 use Rattle.node.specs.Kind.{kind_number, Md5, NonTemplate, AsInterface, AnonymousId, ConstantString}
 use Rattle.strings.specs.Encoded.{character}
-use Rattle.scan.specs.declared.cursor.Leaf.{Leaf}
-use Rattle.scan.specs.declared.cursor.Leaf.TheVariants.{Value, Bad}
+use Rattle.scan.specs.Cursor.{Leaf}
 use Rattle.meaning.specs.Below.{below}
 
 -- the kind, the numbers and the bytes of a node, and what its three references mean
@@ -20,8 +19,8 @@ part sym s n = cond (leb (s + n) (length sym)) (take n (drop s sym)) []
 
 -- the bytes that an encoded string's characters stand for, up to the first that stands for none
 abbrev pub onward : Leaf → (ℕ → ℕ → List ℕ) → List ℕ
-onward (Value v t) f = f v t
-onward (Bad t) f = []
+onward (Ok (v, t)) f = f v t
+onward (Err t) f = []
 
 unfoldable pub decoded_in : ℕ → List ℕ → List ℕ
 decoded_in zero r = []

@@ -11,7 +11,6 @@ pub mod links;
 
 use crate::links::{LINKS, find, link, note, noted};
 use node::{cells, kinds};
-use scan::cursor::Leaf;
 use strings::encoded::read_character;
 
 // The reference in cell j of node n, 0 where it names no earlier node.
@@ -62,23 +61,23 @@ fn same_string(a: &[u8], b: &[u8]) -> bool
         let x = read_character(a, i);
         let y = read_character(b, j);
         match x {
-            Leaf::Value(v, n) => match y {
-                Leaf::Value(w, m) => {
+            Ok((v, n)) => match y {
+                Ok((w, m)) => {
                     if v != w {
                         break false;
                     }
                     i += n;
                     j += m;
                 }
-                Leaf::Bad(_) => {
+                Err(_) => {
                     break false;
                 }
             },
-            Leaf::Bad(_) => match y {
-                Leaf::Value(_, _) => {
+            Err(_) => match y {
+                Ok((_, _)) => {
                     break false;
                 }
-                Leaf::Bad(_) => {
+                Err(_) => {
                     break true;
                 }
             },

@@ -1,11 +1,10 @@
 -- The letters of read_special_name, behind `?`. Operators are numbered in the order of the crate's enum, but for the two RTTI descriptors
 -- with operands, which come last.
 -- Assumes nothing: these are definitions.
-use Rattle.std.specs.Prelude.{ℕ, List, [], ◌∷◌}
+use Rattle.std.specs.Prelude.{ℕ, List, [], ◌∷◌, Ok, Err}
 use Prim.Native.String.{String}
 use Rattle.scan.specs.Bytes.{pick, bytes, starts, spelled, up_to}
-use Rattle.scan.specs.declared.cursor.Leaf.{Leaf}
-use Rattle.scan.specs.declared.cursor.Leaf.TheVariants.{Value, Bad}
+use Rattle.scan.specs.Cursor.{Leaf, value}
 
 -- the operators that code and grammar ask for
 abbrev pub Ctor : ℕ
@@ -119,7 +118,7 @@ operators =
 -- read_special_name up to its operands: a wrong letter is taken, but for one behind `__`
 unfoldable pub read_operator : List ℕ → Leaf
 read_operator r =
-    spelled Value operators
-    (pick (starts (bytes "__") r) (Bad 2)
-    (pick (starts (bytes "_R") r) (Bad (up_to 3 r))
-    (pick (starts (bytes "_") r) (Bad (up_to 2 r)) (Bad (up_to 1 r))))) r
+    spelled value operators
+    (pick (starts (bytes "__") r) (Err 2)
+    (pick (starts (bytes "_R") r) (Err (up_to 3 r))
+    (pick (starts (bytes "_") r) (Err (up_to 2 r)) (Err (up_to 1 r))))) r

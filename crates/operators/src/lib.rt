@@ -32,9 +32,9 @@ fn operator(c: u8) -> Leaf
     ensures { (rest : List ℕ) → result ≡ read_operator (c ∷ rest) }
 {
     match c {
-        b'0'..=b'9' => Leaf::Value((c - b'0') as u32, 1),
-        b'A'..=b'Z' => Leaf::Value((c - 55) as u32, 1),
-        _ => Leaf::Bad(1),
+        b'0'..=b'9' => Ok(((c - b'0') as u32, 1)),
+        b'A'..=b'Z' => Ok(((c - 55) as u32, 1)),
+        _ => Err(1),
     }
 }
 
@@ -44,11 +44,11 @@ fn under_operator(c: u8) -> Leaf
     ensures { (rest : List ℕ) → result ≡ read_operator (95 ∷ c ∷ rest) }
 {
     match c {
-        b'0'..=b'9' => Leaf::Value((c - 12) as u32, 2),
-        b'A'..=b'O' => Leaf::Value((c - 19) as u32, 2),
-        b'S'..=b'V' => Leaf::Value((c - 22) as u32, 2),
-        b'X'..=b'Y' => Leaf::Value((c - 23) as u32, 2),
-        _ => Leaf::Bad(2),
+        b'0'..=b'9' => Ok(((c - 12) as u32, 2)),
+        b'A'..=b'O' => Ok(((c - 19) as u32, 2)),
+        b'S'..=b'V' => Ok(((c - 22) as u32, 2)),
+        b'X'..=b'Y' => Ok(((c - 23) as u32, 2)),
+        _ => Err(2),
     }
 }
 
@@ -57,12 +57,12 @@ fn double_under_operator(c: u8) -> Leaf
     ensures { (rest : List ℕ) → result ≡ read_operator (95 ∷ 95 ∷ c ∷ rest) }
 {
     match c {
-        b'L' => Leaf::Value(67, 3),
-        b'K' => Leaf::Value(LITERAL_OPERATOR_NAME, 3),
-        b'E' => Leaf::Value(72, 3),
-        b'F' => Leaf::Value(73, 3),
-        b'J' => Leaf::Value(LOCAL_STATIC_THREAD_GUARD, 3),
-        _ => Leaf::Bad(2),
+        b'L' => Ok((67, 3)),
+        b'K' => Ok((LITERAL_OPERATOR_NAME, 3)),
+        b'E' => Ok((72, 3)),
+        b'F' => Ok((73, 3)),
+        b'J' => Ok((LOCAL_STATIC_THREAD_GUARD, 3)),
+        _ => Err(2),
     }
 }
 
@@ -71,9 +71,9 @@ fn rtti_operator(c: u8) -> Leaf
     ensures { (rest : List ℕ) → result ≡ read_operator (95 ∷ 82 ∷ c ∷ rest) }
 {
     match c {
-        b'0'..=b'1' => Leaf::Value((c + 27) as u32, 3),
-        b'2'..=b'4' => Leaf::Value((c + 19) as u32, 3),
-        _ => Leaf::Bad(3),
+        b'0'..=b'1' => Ok(((c + 27) as u32, 3)),
+        b'2'..=b'4' => Ok(((c + 19) as u32, 3)),
+        _ => Err(3),
     }
 }
 
@@ -82,7 +82,7 @@ fn read_under_operator(s: &[u8], at: usize) -> Leaf
     ensures { result ≡ read_operator (95 ∷ drop at s.now) }
 {
     if s.len() <= at {
-        return Leaf::Bad(1);
+        return Err(1);
     }
     let next = at + 1;
     let c = s[at];
@@ -91,14 +91,14 @@ fn read_under_operator(s: &[u8], at: usize) -> Leaf
             if next < s.len() {
                 double_under_operator(s[next])
             } else {
-                Leaf::Bad(2)
+                Err(2)
             }
         }
         b'R' => {
             if next < s.len() {
                 rtti_operator(s[next])
             } else {
-                Leaf::Bad(2)
+                Err(2)
             }
         }
         _ => under_operator(c),
@@ -109,7 +109,7 @@ pub fn read_operator(s: &[u8], at: usize) -> Leaf
     ensures { result ≡ read_operator (drop at s.now) }
 {
     if s.len() <= at {
-        return Leaf::Bad(0);
+        return Err(0);
     }
     let c = s[at];
     if c == b'_' {

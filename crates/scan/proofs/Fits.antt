@@ -8,28 +8,28 @@ use native.Mathlib.Omega.{arith}
 use lib.ListN.{length, drop, length-drop}
 use Rattle.scan.specs.Bytes.{pick, is, between, is_digit}
 use Rattle.scan.specs.Number.{sign, letters, magnitude, read_number}
-use Rattle.scan.specs.declared.cursor.Leaf.{Leaf}
-use Rattle.scan.specs.declared.cursor.Leaf.TheVariants.{Value, Bad}
+use Rattle.scan.specs.Cursor.{Leaf}
+use Rattle.std.specs.Prelude.{Ok, Err}
 
 abbrev pub Fits : ℕ → Leaf → Type 0
-Fits most (Value v n) = n ≤ most
-Fits most (Bad n) = n ≤ most
+Fits most (Ok (v, n)) = n ≤ most
+Fits most (Err n) = n ≤ most
 
 pub pick-fits : (most : ℕ) (b : Bool) (x y : Leaf) → Fits most x → Fits most y → Fits most (pick b x y)
 pick-fits most true x y f g = f
 pick-fits most false x y f g = g
 
 pub more-fits : (less most : ℕ) (x : Leaf) → less ≤ most → Fits less x → Fits most x
-more-fits less most (Value v n) h f = omega arith
-more-fits less most (Bad n) h f = omega arith
+more-fits less most (Ok (v, n)) h f = omega arith
+more-fits less most (Err n) h f = omega arith
 
 -- numbers: n bytes are taken already
 letters-fits : (neg : Bool) (n v : ℕ) (r : List ℕ) → Fits (n + length r) (letters neg n v r)
 unfolding letters
 letters-fits neg n v [] = omega arith
 letters-fits neg n v (c ∷ r) =
-    pick-fits (n + suc (length r)) (is "@" c) (Value _ (n + 1)) _ (omega arith)
-    (pick-fits (n + suc (length r)) (between "A" "P" c) _ (Bad n)
+    pick-fits (n + suc (length r)) (is "@" c) (Ok (_, n + 1)) _ (omega arith)
+    (pick-fits (n + suc (length r)) (between "A" "P" c) _ (Err n)
     (more-fits (n + 1 + length r) (n + suc (length r)) (letters neg (n + 1) ((v * 16 + (c - code "A")) % 2 ^ 32) r) (omega arith)
     (letters-fits neg (n + 1) ((v * 16 + (c - code "A")) % 2 ^ 32) r)) (omega arith))
 
@@ -37,7 +37,7 @@ magnitude-fits : (neg : Bool) (r : List ℕ) → Fits (sign neg + length r) (mag
 unfolding magnitude
 magnitude-fits neg [] = omega arith
 magnitude-fits neg (c ∷ r) =
-    pick-fits (sign neg + suc (length r)) (is_digit c) (Value _ (sign neg + 1)) (letters neg (sign neg) 0 (c ∷ r)) (omega arith)
+    pick-fits (sign neg + suc (length r)) (is_digit c) (Ok (_, sign neg + 1)) (letters neg (sign neg) 0 (c ∷ r)) (omega arith)
     (letters-fits neg (sign neg) 0 (c ∷ r))
 
 pub number_fits : (r : List ℕ) → Fits (length r) (read_number r)
@@ -49,7 +49,7 @@ number_fits (c ∷ r) =
     (more-fits (0 + suc (length r)) (suc (length r)) (magnitude false (c ∷ r)) (omega arith) (magnitude-fits false (c ∷ r)))
 
 -- there is no number past the end
-pub number-inside : (s : List ℕ) (at : ℕ) {v n : ℕ} → read_number (drop at s) ≡ Value v n → at ≤ length s
+pub number-inside : (s : List ℕ) (at : ℕ) {v n : ℕ} → read_number (drop at s) ≡ Ok (v, n) → at ≤ length s
 unfolding read_number
 number-inside s zero e = omega arith
 number-inside [] (suc at) e = let z : ◌≡◌ {A = ℕ} 0 1 = cc in absurd (omega arith)
@@ -57,8 +57,8 @@ number-inside (c ∷ s) (suc at) e = omega (arith, number-inside s at e)
 
 -- so behind what a reader takes from a place on is a place
 module _ (read : List ℕ → Leaf) (all : (r : List ℕ) → Fits (length r) (read r)) (s : List ℕ) (at : ℕ) where
-  pub value_stays : {v n : ℕ} → at ≤ length s → read (drop at s) ≡ Value v n → at + n ≤ length s
+  pub value_stays : {v n : ℕ} → at ≤ length s → read (drop at s) ≡ Ok (v, n) → at + n ≤ length s
   value_stays h e = omega (arith, length-drop at s, rw e at (all (drop at s)))
 
-  pub bad-stays : {n : ℕ} → at ≤ length s → read (drop at s) ≡ Bad n → at + n ≤ length s
+  pub bad-stays : {n : ℕ} → at ≤ length s → read (drop at s) ≡ Err n → at + n ≤ length s
   bad-stays h e = omega (arith, length-drop at s, rw e at (all (drop at s)))

@@ -9,8 +9,8 @@ use lib.ListN.{length, take, drop, length-drop}
 use lib.Seq.{drop-drop}
 use Rattle.scan.specs.Bytes.{pick, is, is_hex}
 use Rattle.scan.specs.Name.{string_from, has_at, hex_digits_from, read_hex_digits}
-use Rattle.scan.specs.declared.cursor.Span.{Span}
-use Rattle.scan.specs.declared.cursor.Span.TheVariants.{Takes}
+use Rattle.scan.specs.Cursor.{Span}
+use Rattle.std.specs.Prelude.{Ok}
 
 step_fits : (b : Bool) (m n k : ℕ) → m ≤ n + 1 + k → pick b m n ≤ n + (1 + k)
 step_fits true m n k h = omega arith
@@ -26,12 +26,12 @@ hex-digits-fit r = omega (arith, from-fits 0 r)
 
 -- an `@` among the first bytes is the first of all
 near_step :
-    (b : Bool) (k : ℕ) (x y : Span) {n : ℕ} → pick b (Takes k) x ≡ Takes n → (x ≡ Takes n → y ≡ Takes n)
-    → pick b (Takes k) y ≡ Takes n
+    (b : Bool) (k : ℕ) (x y : Span) {n : ℕ} → pick b (Ok k) x ≡ Ok n → (x ≡ Ok n → y ≡ Ok n)
+    → pick b (Ok k) y ≡ Ok n
 near_step true k x y e more = e
 near_step false k x y e more = more e
 
-pub near : (m n : ℕ) (r : List ℕ) {k : ℕ} → string_from n (take m r) ≡ Takes k → string_from n r ≡ Takes k
+pub near : (m n : ℕ) (r : List ℕ) {k : ℕ} → string_from n (take m r) ≡ Ok k → string_from n r ≡ Ok k
 unfolding string_from
 near zero n r e = cc
 near (suc m) n [] e = e

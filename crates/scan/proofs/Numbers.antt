@@ -7,15 +7,15 @@ use native.Mathlib.Omega.{arith}
 use lib.ListN.{length, get_or, drop}
 use borrow.Author.Tests.{eq-eqb, ne_eqb, le-leb, lt-leb}
 use Rattle.scan.specs.Number.{letters, sign, signed, magnitude, read_number, guard_digits}
-use Rattle.scan.specs.declared.cursor.Leaf.TheVariants.{Value, Bad}
+use Rattle.std.specs.Prelude.{Ok, Err}
 use Rattle.scan.proofs.Laws.{split, past}
 
 module _ (neg : Bool) (s : List ℕ) (i n v : ℕ) where
-  pub letters-end : length s ≤ i → letters neg n v (drop i s) ≡ Bad n
+  pub letters-end : length s ≤ i → letters neg n v (drop i s) ≡ Err n
   unfolding letters
   letters-end h = rw (past s i h)
 
-  pub letters-done : i < length s → get_or s i 0 ≡ 64 → letters neg n v (drop i s) ≡ Value (signed neg v) (n + 1)
+  pub letters-done : i < length s → get_or s i 0 ≡ 64 → letters neg n v (drop i s) ≡ Ok (signed neg v, n + 1)
   unfolding letters
   letters-done h e = rw (split s i h, eq-eqb _ _ e)
 
@@ -24,20 +24,20 @@ module _ (neg : Bool) (s : List ℕ) (i n v : ℕ) where
   unfolding letters
   letters-more h l u = rw (split s i h, ne_eqb (get_or s i 0) 64 (λ e. omega arith), le-leb _ _ l, le-leb _ _ u)
 
-  pub letters-low : i < length s → (get_or s i 0 ≡ 64 → ⊥) → get_or s i 0 < 65 → letters neg n v (drop i s) ≡ Bad n
+  pub letters-low : i < length s → (get_or s i 0 ≡ 64 → ⊥) → get_or s i 0 < 65 → letters neg n v (drop i s) ≡ Err n
   unfolding letters
   letters-low h off l = rw (split s i h, ne_eqb _ 64 off, lt-leb _ _ l)
 
-  pub letters-high : i < length s → 80 < get_or s i 0 → letters neg n v (drop i s) ≡ Bad n
+  pub letters-high : i < length s → 80 < get_or s i 0 → letters neg n v (drop i s) ≡ Err n
   unfolding letters
   letters-high h u = let l : 65 ≤ get_or s i 0 = omega arith in rw (split s i h, ne_eqb (get_or s i 0) 64 (λ e. omega arith), le-leb _ _ l, lt-leb _ _ u)
 
 module _ (s : List ℕ) (i n v : ℕ) where
-  pub guard-end : length s ≤ i → guard_digits n v (drop i s) ≡ Bad n
+  pub guard-end : length s ≤ i → guard_digits n v (drop i s) ≡ Err n
   unfolding guard_digits
   guard-end h = rw (past s i h)
 
-  pub guard-done : i < length s → get_or s i 0 ≡ 64 → guard_digits n v (drop i s) ≡ Value v (n + 1)
+  pub guard-done : i < length s → get_or s i 0 ≡ 64 → guard_digits n v (drop i s) ≡ Ok (v, n + 1)
   unfolding guard_digits
   guard-done h e = rw (split s i h, eq-eqb _ _ e)
 
@@ -46,11 +46,11 @@ module _ (s : List ℕ) (i n v : ℕ) where
   unfolding guard_digits
   guard-more h l u = rw (split s i h, ne_eqb (get_or s i 0) 64 (λ e. omega arith), le-leb _ _ l, le-leb _ _ u)
 
-  pub guard-low : i < length s → (get_or s i 0 ≡ 64 → ⊥) → get_or s i 0 < 48 → guard_digits n v (drop i s) ≡ Bad n
+  pub guard-low : i < length s → (get_or s i 0 ≡ 64 → ⊥) → get_or s i 0 < 48 → guard_digits n v (drop i s) ≡ Err n
   unfolding guard_digits
   guard-low h off l = rw (split s i h, ne_eqb _ 64 off, lt-leb _ _ l)
 
-  pub guard-high : i < length s → (get_or s i 0 ≡ 64 → ⊥) → 57 < get_or s i 0 → guard_digits n v (drop i s) ≡ Bad n
+  pub guard-high : i < length s → (get_or s i 0 ≡ 64 → ⊥) → 57 < get_or s i 0 → guard_digits n v (drop i s) ≡ Err n
   unfolding guard_digits
   guard-high h off u = let l : 48 ≤ get_or s i 0 = omega arith in rw (split s i h, ne_eqb _ 64 off, le-leb _ _ l, lt-leb _ _ u)
 

@@ -1,12 +1,11 @@
 -- The numbers that the scope marks to be proved, as one table and one statement; the two bad ones have the offset of the later request M-113. Assumes nothing.
-use Rattle.std.specs.Prelude.{ℕ, ◌≡◌, refl, List, [], ◌∷◌, map, ℤ, pos, negsuc}
+use Rattle.std.specs.Prelude.{ℕ, ◌≡◌, refl, List, [], ◌∷◌, map, ℤ, pos, negsuc, Ok, Err}
 use Prim.Native.String.{String}
 use Rattle.std.specs.Int.{w32}
 use Rattle.std.proofs.Common.{to_z}
 use Rattle.scan.specs.Bytes.{bytes}
 use Rattle.scan.specs.Number.{read_number, magnitude, letters}
-use Rattle.scan.specs.declared.cursor.Leaf.{Leaf}
-use Rattle.scan.specs.declared.cursor.Leaf.TheVariants.{Value, Bad}
+use Rattle.scan.specs.Cursor.{Leaf}
 
 -- a signed number, or the offset of the refusal
 pub data Outcome : Type 0 where
@@ -14,8 +13,8 @@ pub data Outcome : Type 0 where
   refused : ℕ → Outcome
 
 abbrev pub outcome : Leaf → Outcome
-outcome (Value v n) = value (to_z w32 v)
-outcome (Bad n) = refused n
+outcome (Ok (v, n)) = value (to_z w32 v)
+outcome (Err n) = refused n
 
 abbrev pub read : List (String × Outcome) → List Outcome
 read cases = map (λ c. outcome (read_number (bytes c.0))) cases

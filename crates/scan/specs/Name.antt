@@ -1,13 +1,12 @@
 -- The parts of names. Assumes nothing: these are definitions.
-use Rattle.std.specs.Prelude.{ℕ, ◌+◌, Bool, true, false, List, [], ◌∷◌, drop, eqb}
+use Rattle.std.specs.Prelude.{ℕ, ◌+◌, Bool, true, false, List, [], ◌∷◌, drop, eqb, Ok, Err}
 use Rattle.scan.specs.Bytes.{pick, is, is_hex, bytes, starts}
-use Rattle.scan.specs.declared.cursor.Span.{Span}
-use Rattle.scan.specs.declared.cursor.Span.TheVariants.{Takes, Bad}
+use Rattle.scan.specs.Cursor.{Span}
 
 -- read_string: n bytes are passed; the next `@` is taken too
 unfoldable pub string_from : ℕ → List ℕ → Span
-string_from n [] = Bad 0
-string_from n (c ∷ r) = pick (is "@" c) (Takes (n + 1)) (string_from (n + 1) r)
+string_from n [] = Err 0
+string_from n (c ∷ r) = pick (is "@" c) (Ok (n + 1)) (string_from (n + 1) r)
 
 abbrev pub read_string : List ℕ → Span
 read_string r = string_from 0 r
@@ -28,4 +27,4 @@ read_hex_digits r = hex_digits_from 0 r
 -- read_md5_name: all hex digits are taken, and there must be 32 of them and an `@`
 abbrev pub read_md5_name : List ℕ → Span
 read_md5_name r =
-    pick (eqb (read_hex_digits r) 32) (pick (starts (bytes "@") (drop 32 r)) (Takes 33) (Bad 32)) (Bad (read_hex_digits r))
+    pick (eqb (read_hex_digits r) 32) (pick (starts (bytes "@") (drop 32 r)) (Ok 33) (Err 32)) (Err (read_hex_digits r))

@@ -4,34 +4,15 @@ ghost use Rattle.scan.specs.Bytes.{starts, is_hex};
 ghost use Rattle.scan.specs.Cursor.{get_byte, expect_literal, read_digit, read_hex_digit};
 
 // What a leaf reads: a value and how many bytes it took, or how many it took before it was refused.
-#[derive(Clone, Copy)]
-pub enum Leaf {
-    Value(u32, usize),
-    Bad(usize),
-}
+pub type Leaf = Result<(u32, usize), usize>;
 
 // The same where the bytes themselves are the value.
-#[derive(Clone, Copy)]
-pub enum Span {
-    Takes(usize),
-    Bad(usize),
-}
+pub type Span = Result<usize, usize>;
 
-// A byte, or none of the kind asked for.
-#[derive(Clone, Copy)]
-pub enum Found {
-    Byte(u8),
-    Nothing,
-}
-
-pub fn get(s: &[u8], at: usize) -> Found
+pub fn get(s: &[u8], at: usize) -> Option<u8>
     ensures { result ≡ get_byte (drop at s.now) }
 {
-    if at < s.len() {
-        Found::Byte(s[at])
-    } else {
-        Found::Nothing
-    }
+    if at < s.len() { Some(s[at]) } else { None }
 }
 
 // Whether the literal stands here: the caller then goes on behind it.
@@ -57,29 +38,25 @@ pub fn expect(literal: &[u8], s: &[u8], at: usize) -> Span
     ensures { result ≡ expect_literal literal.now (drop at s.now) }
 {
     if consume(literal, s, at) {
-        Span::Takes(literal.len())
+        Ok(literal.len())
     } else {
-        Span::Bad(0)
+        Err(0)
     }
 }
 
-fn digit_of(c: u8) -> Found
+fn digit_of(c: u8) -> Option<u8>
     ensures { (rest : List ℕ) → result ≡ read_digit (c ∷ rest) }
 {
     match c {
-        b'0'..=b'9' => Found::Byte(c - b'0'),
-        _ => Found::Nothing,
+        b'0'..=b'9' => Some(c - b'0'),
+        _ => None,
     }
 }
 
-pub fn read_digit(s: &[u8], at: usize) -> Found
+pub fn read_digit(s: &[u8], at: usize) -> Option<u8>
     ensures { result ≡ read_digit (drop at s.now) }
 {
-    if at < s.len() {
-        digit_of(s[at])
-    } else {
-        Found::Nothing
-    }
+    if at < s.len() { digit_of(s[at]) } else { None }
 }
 
 pub fn is_hex(c: u8) -> bool
@@ -91,17 +68,13 @@ pub fn is_hex(c: u8) -> bool
     }
 }
 
-pub fn read_hex_digit(s: &[u8], at: usize) -> Found
+pub fn read_hex_digit(s: &[u8], at: usize) -> Option<u8>
     ensures { result ≡ read_hex_digit (drop at s.now) }
 {
     if at < s.len() {
         let c = s[at];
-        if is_hex(c) {
-            Found::Byte(c)
-        } else {
-            Found::Nothing
-        }
+        if is_hex(c) { Some(c) } else { None }
     } else {
-        Found::Nothing
+        None
     }
 }

@@ -16,10 +16,10 @@ fn search(t: &[u8], from: usize) -> Span
         let c = t[n];
         n += 1;
         if c == b'@' {
-            return Span::Takes(n);
+            return Ok(n);
         }
     }
-    Span::Bad(0)
+    Err(0)
 }
 
 // It looks at every byte, also behind an `@`: that is what lets the compiler compare a block at once.
@@ -55,13 +55,13 @@ pub fn read_string(s: &[u8], at: usize) -> Span
     ensures { result ≡ read_string (drop at s.now) }
 {
     if s.len() < at {
-        return Span::Bad(0);
+        return Err(0);
     }
     let t = &s[at..];
     if BLOCK <= t.len() {
         let near = search(&t[..BLOCK], 0);
-        if let Span::Takes(n) = near {
-            return Span::Takes(n);
+        if let Ok(n) = near {
+            return Ok(n);
         }
     }
     search_blocks(t)
@@ -87,11 +87,11 @@ pub fn read_md5_name(s: &[u8], at: usize) -> Span
 {
     let n = read_hex_digits(s, at);
     if n != 32 {
-        return Span::Bad(n);
+        return Err(n);
     }
     if consume(b"@", s, at + 32) {
-        Span::Takes(33)
+        Ok(33)
     } else {
-        Span::Bad(32)
+        Err(32)
     }
 }

@@ -41,12 +41,12 @@ fn read_letters(s: &[u8], from: usize, neg: bool) -> Leaf
     let mut i = from;
     loop {
         if s.len() <= i {
-            break Leaf::Bad(before + n);
+            break Err(before + n);
         }
         let c = s[i];
         match c {
             b'@' => {
-                break Leaf::Value(signed_bits(neg, v), before + n + 1);
+                break Ok((signed_bits(neg, v), before + n + 1));
             }
             b'A'..=b'P' => {
                 v = shifted(v, 16, (c - b'A') as u32);
@@ -54,7 +54,7 @@ fn read_letters(s: &[u8], from: usize, neg: bool) -> Leaf
                 i += 1;
             }
             _ => {
-                break Leaf::Bad(before + n);
+                break Err(before + n);
             }
         }
     }
@@ -66,13 +66,13 @@ fn read_magnitude(s: &[u8], from: usize, neg: bool) -> Leaf
     ensures { result ≡ magnitude neg (drop from s.now) }
 {
     if s.len() <= from {
-        return Leaf::Bad(sign_len(neg));
+        return Err(sign_len(neg));
     }
     let c = s[from];
     match c {
         b'0'..=b'9' => {
             let n = sign_len(neg) + 1;
-            Leaf::Value(signed_bits(neg, (c - 47) as u32), n)
+            Ok((signed_bits(neg, (c - 47) as u32), n))
         }
         _ => read_letters(s, from, neg),
     }
@@ -82,7 +82,7 @@ pub fn read_number(s: &[u8], at: usize) -> Leaf
     ensures { result ≡ read_number (drop at s.now) }
 {
     if s.len() <= at {
-        return Leaf::Bad(0);
+        return Err(0);
     }
     if s[at] == b'?' {
         read_magnitude(s, at + 1, true)
@@ -97,14 +97,8 @@ pub fn read_unsigned(s: &[u8], at: usize) -> Leaf
 {
     let number = read_number(s, at);
     match number {
-        Leaf::Value(v, n) => {
-            if v < 0x8000_0000 {
-                Leaf::Value(v, n)
-            } else {
-                Leaf::Bad(n)
-            }
-        }
-        Leaf::Bad(n) => Leaf::Bad(n),
+        Ok((v, n)) => { if v < 0x8000_0000 { Ok((v, n)) } else { Err(n) } }
+        Err(n) => Err(n),
     }
 }
 
@@ -118,12 +112,12 @@ fn read_guard_digits(s: &[u8], from: usize, first: u32) -> Leaf
     let mut i = from;
     loop {
         if s.len() <= i {
-            break Leaf::Bad(n);
+            break Err(n);
         }
         let c = s[i];
         match c {
             b'@' => {
-                break Leaf::Value(v, n + 1);
+                break Ok((v, n + 1));
             }
             b'0'..=b'9' => {
                 v = shifted(v, 10, (c - b'0') as u32);
@@ -131,7 +125,7 @@ fn read_guard_digits(s: &[u8], from: usize, first: u32) -> Leaf
                 i += 1;
             }
             _ => {
-                break Leaf::Bad(n);
+                break Err(n);
             }
         }
     }
@@ -142,11 +136,11 @@ pub fn read_guard_number(s: &[u8], at: usize) -> Leaf
     ensures { result ≡ read_guard_number (drop at s.now) }
 {
     if s.len() <= at {
-        return Leaf::Bad(0);
+        return Err(0);
     }
     let c = s[at];
     match c {
         b'0'..=b'9' => read_guard_digits(s, at + 1, (c - b'0') as u32),
-        _ => Leaf::Bad(0),
+        _ => Err(0),
     }
 }

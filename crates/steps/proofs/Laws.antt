@@ -12,9 +12,8 @@ use lib.ListN.{length, drop, get_or}
 use lib.Dec.{leb}
 use borrow.Author.Tests.{lt-leb}
 use Rattle.scan.specs.Bytes.{pick, bytes, starts, is_digit}
-use Rattle.forms.specs.Types.{type_reference}
-use Rattle.forms.specs.declared.types.Reference.{Reference}
-use Rattle.forms.specs.declared.types.Reference.TheVariants.{Stored, Absent}
+use Rattle.forms.specs.Types.{type_reference, Reference}
+use Rattle.std.specs.Prelude.{Some, None}
 use Rattle.node.specs.Cells as table
 use Rattle.node.specs.declared.Node as row
 use Rattle.grammar.specs.Program.{ret, fail, look, when, store, part, sub, node, found, refused, Reply, Out, out, onward, and_then, run, Store}
@@ -215,15 +214,15 @@ module _ {s : List ℕ} {limit room d : ℕ} where
   unfolding run
   no_digit p {st = st} {r = r} m e h = record { is = rw (unmet (is_digit (byte_at s st.at)) (byte_at s st.at - code "0") (further 1 st) st r m.is e).0 h.is }
 
-referred : (f : Reference) (st : Spot) (r : Took) {x : ℕ} → r ≡ took_reference f st → r.value ≡ Is x → (n : ℕ) × (f ≡ Stored x n) × (r.state ≡ further n st)
-referred (Stored i n) st r {x} e a =
+referred : (f : Reference) (st : Spot) (r : Took) {x : ℕ} → r ≡ took_reference f st → r.value ≡ Is x → (n : ℕ) × (f ≡ Some (x, n)) × (r.state ≡ further n st)
+referred (Some (i, n)) st r {x} e a =
     let i≡x : x ≡ i = ap number_of (sym a ∙ ap (λ (r : Took). r.value) e) in
-    (n, ap (λ (y : ℕ). Stored y n) (sym i≡x), ap (λ (r : Took). r.state) e)
-referred Absent st r {x} e a = clash x (sym a ∙ ap (λ (r : Took). r.value) e)
+    (n, ap (λ (y : ℕ). Some (y, n)) (sym i≡x), ap (λ (r : Took). r.state) e)
+referred None st r {x} e a = clash x (sym a ∙ ap (λ (r : Took). r.value) e)
 
-unreferred : (f : Reference) (st : Spot) (r : Took) → r ≡ took_reference f st → r.value ≡ Bad → f ≡ Absent
-unreferred (Stored i n) st r e a = clash i (sym (ap (λ (r : Took). r.value) e) ∙ a)
-unreferred Absent st r e a = refl
+unreferred : (f : Reference) (st : Spot) (r : Took) → r ≡ took_reference f st → r.value ≡ Bad → f ≡ None
+unreferred (Some (i, n)) st r e a = clash i (sym (ap (λ (r : Took). r.value) e) ∙ a)
+unreferred None st r e a = refl
 
 -- a part at no remaining depth, and at some
 pub reads-deep : {s : List ℕ} {limit room d : ℕ} {tag : Tag} {v : View (Ans tag)} {st : Spot} {t : Lent} {g : Got} → d ≡ 0 → g ≡ refused_at Deep st → Reads s limit room d tag st t v g t

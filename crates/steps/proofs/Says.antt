@@ -8,19 +8,12 @@ use mathlib.Core.Bool.{Bool, true, false}
 use native.Mathlib.Omega.{arith}
 use lib.ListN.{length, drop, length-drop}
 use Rattle.scan.specs.Bytes.{pick, starts, is_digit}
-use Rattle.scan.specs.Cursor.{read_digit}
-use Rattle.scan.specs.declared.cursor.Found.{Found}
-use Rattle.scan.specs.declared.cursor.Found.TheVariants.{Byte, Nothing}
-use Rattle.scan.specs.declared.cursor.Leaf.{Leaf}
-use Rattle.scan.specs.declared.cursor.Leaf.TheVariants as leafs
-use Rattle.scan.specs.declared.cursor.Span.{Span}
-use Rattle.scan.specs.declared.cursor.Span.TheVariants as spans
+use Rattle.scan.specs.Cursor.{read_digit, Leaf, Span}
+use Rattle.std.specs.Prelude.{Option, Some, None, Ok, Err}
 use Rattle.scan.proofs.Fits.{Fits}
 use Rattle.letters.specs.declared.Class.{Class}
-use Rattle.forms.specs.Types.{type_reference}
+use Rattle.forms.specs.Types.{type_reference, Reference}
 use Rattle.forms.proofs.Starts.{digit_at}
-use Rattle.forms.specs.declared.types.Reference.{Reference}
-use Rattle.forms.specs.declared.types.Reference.TheVariants.{Stored}
 use Rattle.grammar.specs.Program.{found, out, run}
 use Rattle.grammar.specs.Words.{leaf_is, leaf, span_is, span, class_is, class, byte_at}
 use Rattle.strings.proofs.Fit.{SpanFits}
@@ -35,13 +28,13 @@ use Rattle.scan.specs.Limits.{longest_symbol, Short}
 
 leaf-says : (s : List ℕ) (limit room d : ℕ) (l : Leaf) (st : Spot) (t : Lent) → out (valued (took_leaf l st).value) (full (took_leaf l st).state t) t.table ≡ does s limit room d (leaf_is l) st t
 unfolding run
-leaf-says s limit room d (leafs.Value v n) st t = refl
-leaf-says s limit room d (leafs.Bad n) st t = refl
+leaf-says s limit room d (Ok (v, n)) st t = refl
+leaf-says s limit room d (Err n) st t = refl
 
 span-says : (s : List ℕ) (limit room d : ℕ) (l : Span) (st : Spot) (t : Lent) → out (valued (took_span l st).value) (full (took_span l st).state t) t.table ≡ does s limit room d (span_is l) st t
 unfolding run
-span-says s limit room d (spans.Takes n) st t = refl
-span-says s limit room d (spans.Bad n) st t = refl
+span-says s limit room d (Ok n) st t = refl
+span-says s limit room d (Err n) st t = refl
 
 pub values-leaf : {s : List ℕ} (f : List ℕ → Leaf) {l : Leaf} {st : Spot} {r : Took} → l ≡ f (drop st.at s) → r ≡ took_leaf l st → Values s (leaf f) st r
 unfolding run
@@ -60,12 +53,12 @@ classes-leaf {s} f {c} {st} {r} e h =
 
 -- room for what is taken
 room-leaf : (at most : ℕ) (l : Leaf) → Fits most l → most ≤ longest_symbol - at → at < 65536 → LeafRoom at l
-room-leaf at most (leafs.Value v n) f h a = omega arith
-room-leaf at most (leafs.Bad n) f h a = omega arith
+room-leaf at most (Ok (v, n)) f h a = omega arith
+room-leaf at most (Err n) f h a = omega arith
 
 room-span : (at most : ℕ) (l : Span) → SpanFits most l → most ≤ longest_symbol - at → at < 65536 → SpanRoom at l
-room-span at most (spans.Takes n) f h a = omega arith
-room-span at most (spans.Bad n) f h a = omega arith
+room-span at most (Ok n) f h a = omega arith
+room-span at most (Err n) f h a = omega arith
 
 module _ (s : List ℕ) (at : ℕ) (short : Short s) (low : at < 65536) where
   rest-short : length (drop at s) ≤ longest_symbol - at
@@ -94,11 +87,11 @@ pub stands-room : (s b : List ℕ) (at : ℕ) → Short s → at < 65536 → {r 
 stands-room s b at short low e f = let l = starts-fits b (drop at s) (sym e ∙ f) in let m = rest-short s at short low in omega arith
 
 -- a digit, a stored type: by what was found
-abbrev took_digit : Found → Spot → Took
-took_digit (Byte i) st = record { value = Is i; state = further 1 st }
-took_digit Nothing st = record { value = Bad; state = st }
+abbrev took_digit : Option ℕ → Spot → Took
+took_digit (Some i) st = record { value = Is i; state = further 1 st }
+took_digit None st = record { value = Bad; state = st }
 
-digit_or : (b : Bool) (i : ℕ) (st : Spot) → took_digit (pick b (Byte i) Nothing) st ≡ pick b (record { value = Is i; state = further 1 st }) (record { value = Bad; state = st })
+digit_or : (b : Bool) (i : ℕ) (st : Spot) → took_digit (pick b (Some i) None) st ≡ pick b (record { value = Is i; state = further 1 st }) (record { value = Bad; state = st })
 digit_or true i st = refl
 digit_or false i st = refl
 
@@ -109,16 +102,16 @@ digit-says [] (suc at) st = refl
 digit-says (x ∷ s) zero st = digit_or (is_digit x) (x - code "0") st
 digit-says (x ∷ s) (suc at) st = digit-says s at st
 
-pub digits : {s : List ℕ} {f g : Found} {st : Spot} {r : Took} → f ≡ read_digit (drop st.at s) → f ≡ g → r ≡ took_digit g st → Digits s st r
-digits {s} {st = st} e h k = record { is = k ∙ ap (λ (f : Found). took_digit f st) (sym h ∙ e) ∙ digit-says s st.at st }
+pub digits : {s : List ℕ} {f g : Option ℕ} {st : Spot} {r : Took} → f ≡ read_digit (drop st.at s) → f ≡ g → r ≡ took_digit g st → Digits s st r
+digits {s} {st = st} e h k = record { is = k ∙ ap (λ (f : Option ℕ). took_digit f st) (sym h ∙ e) ∙ digit-says s st.at st }
 
-pub digit_room : (s : List ℕ) (at : ℕ) → Short s → {f : Found} {i : ℕ} → f ≡ read_digit (drop at s) → f ≡ Byte i → at + 1 < 65536
+pub digit_room : (s : List ℕ) (at : ℕ) → Short s → {f : Option ℕ} {i : ℕ} → f ≡ read_digit (drop at s) → f ≡ Some i → at + 1 < 65536
 digit_room s at short e h = omega (arith, digit_at s at (sym e ∙ h))
 
 pub refers : {s : List ℕ} {f g : Reference} {st : Spot} {r : Took} → f ≡ type_reference (drop st.at s) → f ≡ g → r ≡ took_reference g st → Refers s st r
 refers {st = st} e h k = record { is = k ∙ ap (λ (f : Reference). took_reference f st) (sym h ∙ e) }
 
-pub reference-room : (s : List ℕ) (at : ℕ) → Short s → at < 65536 → {f : Reference} {i n : ℕ} → f ≡ type_reference (drop at s) → f ≡ Stored i n → at + n < 65536
+pub reference-room : (s : List ℕ) (at : ℕ) → Short s → at < 65536 → {f : Reference} {i n : ℕ} → f ≡ type_reference (drop at s) → f ≡ Some (i, n) → at + n < 65536
 reference-room s at short low e h =
     let l = subst (ReferenceFits (length (drop at s))) (sym e ∙ h) (reference-fits (drop at s)) in
     let m = rest-short s at short low in

@@ -1,19 +1,14 @@
 -- What the functions of a reading promise, by the programs that they follow. Assumes nothing: these are definitions.
-use Rattle.std.specs.Prelude.{ℕ, ◌+◌, ◌-◌, ◌<◌, max, ◌≡◌, List, [], ◌∷◌, Bool, length, drop, leb, eqb}
+use Rattle.std.specs.Prelude.{ℕ, ◌+◌, ◌-◌, ◌<◌, max, ◌≡◌, List, [], ◌∷◌, Bool, length, drop, leb, eqb, Ok, Err, Some, None}
 use Prim.Native.Char.{code}
 use Rattle.scan.specs.Bytes.{pick, starts, is_digit}
-use Rattle.scan.specs.declared.cursor.Leaf.{Leaf}
-use Rattle.scan.specs.declared.cursor.Leaf.TheVariants as leaf
-use Rattle.scan.specs.declared.cursor.Span.{Span}
-use Rattle.scan.specs.declared.cursor.Span.TheVariants as span
+use Rattle.scan.specs.Cursor.{Leaf, Span}
 use Rattle.letters.specs.declared.Class.{Class}
 use Rattle.node.specs.Cells.{stored}
 use Rattle.node.specs.declared.Node as row
 use Rattle.meaning.specs.Tree.{tree_of, eq_tree}
 use Rattle.grammar.specs.Program.{ret, sub, node, found, refused, Reply, Out, out, and_then, run, Store, added, with}
-use Rattle.forms.specs.Types.{type_reference}
-use Rattle.forms.specs.declared.types.Reference.{Reference}
-use Rattle.forms.specs.declared.types.Reference.TheVariants.{Stored, Absent}
+use Rattle.forms.specs.Types.{type_reference, Reference}
 use Rattle.grammar.specs.Words.{byte_at}
 use Rattle.grammar.specs.Counts.{rises, closed}
 use Rattle.grammar.specs.Table.{counted, tallest_in, shut_at, shut_table, same_table, read_table}
@@ -120,24 +115,24 @@ pub record Classes (s : List ℕ) (p : Reading ℕ) (st : Spot) (r : Classed) : 
 
 -- what a leaf says at a state's place
 abbrev pub took_leaf : Leaf → Spot → Took
-took_leaf (leaf.Value v n) st = record { value = Is v; state = further n st }
-took_leaf (leaf.Bad n) st = record { value = Bad; state = further n st }
+took_leaf (Ok (v, n)) st = record { value = Is v; state = further n st }
+took_leaf (Err n) st = record { value = Bad; state = further n st }
 
 abbrev pub took_span : Span → Spot → Took
-took_span (span.Takes n) st = record { value = Is n; state = further n st }
-took_span (span.Bad n) st = record { value = Bad; state = further n st }
+took_span (Ok n) st = record { value = Is n; state = further n st }
+took_span (Err n) st = record { value = Bad; state = further n st }
 
 abbrev pub classed_at : Class → Spot → Classed
 classed_at c st = record { bits = c.bits; state = further c.taken st }
 
 -- places have sixteen bits
 abbrev pub LeafRoom : ℕ → Leaf → Type 0
-LeafRoom at (leaf.Value v n) = at + n < 65536
-LeafRoom at (leaf.Bad n) = at + n < 65536
+LeafRoom at (Ok (v, n)) = at + n < 65536
+LeafRoom at (Err n) = at + n < 65536
 
 abbrev pub SpanRoom : ℕ → Span → Type 0
-SpanRoom at (span.Takes n) = at + n < 65536
-SpanRoom at (span.Bad n) = at + n < 65536
+SpanRoom at (Ok n) = at + n < 65536
+SpanRoom at (Err n) = at + n < 65536
 
 abbrev pub ClassRoom : ℕ → Class → Type 0
 ClassRoom at c = at + c.taken < 65536
@@ -152,8 +147,8 @@ pub record Digits (s : List ℕ) (st : Spot) (r : Took) : Type 0 where
 
 -- a stored type is named here, and its bytes are taken
 abbrev pub took_reference : Reference → Spot → Took
-took_reference (Stored i n) st = record { value = Is i; state = further n st }
-took_reference Absent st = record { value = Bad; state = st }
+took_reference (Some (i, n)) st = record { value = Is i; state = further n st }
+took_reference None st = record { value = Bad; state = st }
 
 pub record Refers (s : List ℕ) (st : Spot) (r : Took) : Type 0 where
   pub is : r ≡ took_reference (type_reference (drop st.at s)) st

@@ -11,20 +11,19 @@ ghost use Rattle.steps.specs.Does.{further, Values, Classes, Meets, Digits, Refe
 ghost use Rattle.scan.specs.Limits.{Short};
 
 use crate::state::{Classed, Spot, Took, Value, past};
-use forms::types::Reference;
 use letters::{Class, storage};
-use scan::cursor::{Found, Leaf, Span};
+use scan::cursor::{Leaf, Span};
 
 fn took(l: Leaf, st: Spot) -> Took
     requires { LeafRoom st.at l }
     ensures { result ≡ took_leaf l st }
 {
     match l {
-        Leaf::Value(v, n) => Took {
+        Ok((v, n)) => Took {
             value: Value::Is(v),
             state: past(st, n),
         },
-        Leaf::Bad(n) => Took {
+        Err(n) => Took {
             value: Value::Bad,
             state: past(st, n),
         },
@@ -36,11 +35,11 @@ fn took_span(l: Span, st: Spot) -> Took
     ensures { result ≡ took_span l st }
 {
     match l {
-        Span::Takes(n) => Took {
+        Ok(n) => Took {
             value: Value::Is(n as u32),
             state: past(st, n),
         },
-        Span::Bad(n) => Took {
+        Err(n) => Took {
             value: Value::Bad,
             state: past(st, n),
         },
@@ -182,11 +181,11 @@ pub fn digit(s: &[u8], st: Spot) -> Took
 {
     let d = scan::cursor::read_digit(s, st.at as usize);
     match d {
-        Found::Byte(i) => Took {
+        Some(i) => Took {
             value: Value::Is(i as u32),
             state: past(st, 1),
         },
-        Found::Nothing => Took {
+        None => Took {
             value: Value::Bad,
             state: st,
         },
@@ -200,11 +199,11 @@ pub fn reference(s: &[u8], st: Spot) -> Took
 {
     let f = forms::types::type_reference(s, st.at as usize);
     match f {
-        Reference::Stored(i, n) => Took {
+        Some((i, n)) => Took {
             value: Value::Is(i),
             state: past(st, n),
         },
-        Reference::Absent => Took {
+        None => Took {
             value: Value::Bad,
             state: st,
         },

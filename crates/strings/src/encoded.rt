@@ -5,16 +5,16 @@ ghost use Rattle.strings.specs.Encoded.{is_plain, character, escape, hex_pair, l
 use scan::cursor::{Leaf, Span};
 use scan::number::read_number;
 
-// The declared length as its 32 bits, where the characters start, and the bytes taken in all; or the bytes taken before the refusal.
+// The declared length as its 32 bits, where the characters start, and the bytes taken in all.
 #[derive(Clone, Copy)]
-pub enum Encoded {
-    Chars {
-        length: u32,
-        start: usize,
-        taken: usize,
-    },
-    Bad(usize),
+pub struct Chars {
+    pub length: u32,
+    pub start: usize,
+    pub taken: usize,
 }
+
+// Or the bytes taken before the refusal.
+pub type Encoded = Result<Chars, usize>;
 
 // What `?` and a digit stand for.
 const ESCAPED: [u8; 10] = *b",/\\:. \n\t'-";
@@ -25,12 +25,12 @@ fn read_low_letter(s: &[u8], at: usize, high: u8) -> Leaf
     ensures { result ≡ low_letter high (drop at s.now) }
 {
     if s.len() <= at {
-        return Leaf::Bad(3);
+        return Err(3);
     }
     let c = s[at];
     match c {
-        b'A'..=b'P' => Leaf::Value(((high - b'A') as u32) * 16 + ((c - b'A') as u32), 4),
-        _ => Leaf::Bad(4),
+        b'A'..=b'P' => Ok((((high - b'A') as u32) * 16 + ((c - b'A') as u32), 4)),
+        _ => Err(4),
     }
 }
 
@@ -39,12 +39,12 @@ fn read_hex_pair(s: &[u8], at: usize) -> Leaf
     ensures { result ≡ hex_pair (drop at s.now) }
 {
     if s.len() <= at {
-        return Leaf::Bad(2);
+        return Err(2);
     }
     let c = s[at];
     match c {
         b'A'..=b'P' => read_low_letter(s, at + 1, c),
-        _ => Leaf::Bad(3),
+        _ => Err(3),
     }
 }
 
@@ -53,10 +53,10 @@ fn escape_letter(c: u8) -> Leaf
     ensures { (rest : List ℕ) → result ≡ escape (c ∷ rest) }
 {
     match c {
-        b'A'..=b'Z' => Leaf::Value((c + 160) as u32, 2),
-        b'a'..=b'z' => Leaf::Value((c + 128) as u32, 2),
-        b'0'..=b'9' => Leaf::Value(ESCAPED[(c - b'0') as usize] as u32, 2),
-        _ => Leaf::Bad(2),
+        b'A'..=b'Z' => Ok(((c + 160) as u32, 2)),
+        b'a'..=b'z' => Ok(((c + 128) as u32, 2)),
+        b'0'..=b'9' => Ok((ESCAPED[(c - b'0') as usize] as u32, 2)),
+        _ => Err(2),
     }
 }
 
@@ -65,7 +65,7 @@ fn read_escape(s: &[u8], at: usize) -> Leaf
     ensures { result ≡ escape (drop at s.now) }
 {
     if s.len() <= at {
-        return Leaf::Bad(1);
+        return Err(1);
     }
     let c = s[at];
     if c == b'$' {
@@ -90,16 +90,16 @@ pub fn read_character(s: &[u8], at: usize) -> Leaf
     ensures { result ≡ character (drop at s.now) }
 {
     if s.len() <= at {
-        return Leaf::Bad(0);
+        return Err(0);
     }
     let c = s[at];
     if is_plain(c) {
-        return Leaf::Value(c as u32, 1);
+        return Ok((c as u32, 1));
     }
     if c == b'?' {
         read_escape(s, at + 1)
     } else {
-        Leaf::Bad(1)
+        Err(1)
     }
 }
 
@@ -112,16 +112,16 @@ fn read_characters(s: &[u8], at: usize, count: usize) -> Span
     while 0 < left {
         let c = read_character(s, i);
         match c {
-            Leaf::Value(_, n) => {
+            Ok((_, n)) => {
                 i += n;
             }
-            Leaf::Bad(n) => {
-                return Span::Bad(i - at + n);
+            Err(n) => {
+                return Err(i - at + n);
             }
         }
         left -= 1;
     }
-    Span::Takes(i - at)
+    Ok(i - at)
 }
 
 // How many characters are kept of a declared length: at most 32, none of a negative one.
@@ -146,12 +146,12 @@ fn read_strung(s: &[u8], at: usize, start: usize, declared: u32, width: u8) -> E
 {
     let chars = read_characters(s, at, kept_count(declared, width));
     match chars {
-        Span::Takes(n) => Encoded::Chars {
+        Ok(n) => Ok(Chars {
             length: declared,
             start,
             taken: start + n,
-        },
-        Span::Bad(n) => Encoded::Bad(start + n),
+        }),
+        Err(n) => Err(start + n),
     }
 }
 
@@ -160,13 +160,13 @@ pub fn read_encoded_string(s: &[u8], at: usize, width: u8) -> Encoded
 {
     let length = read_number(s, at);
     match length {
-        Leaf::Value(v, a) => {
+        Ok((v, a)) => {
             let checksum = read_number(s, at + a);
             match checksum {
-                Leaf::Value(_, b) => read_strung(s, at + a + b, a + b, v, width),
-                Leaf::Bad(b) => Encoded::Bad(a + b),
+                Ok((_, b)) => read_strung(s, at + a + b, a + b, v, width),
+                Err(b) => Err(a + b),
             }
         }
-        Leaf::Bad(a) => Encoded::Bad(a),
+        Err(a) => Err(a),
     }
 }

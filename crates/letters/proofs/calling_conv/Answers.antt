@@ -4,7 +4,7 @@ use mathlib.Core.List.{[], ◌∷◌}
 use native.Mathlib.Omega.{arith}
 use Rattle.scan.proofs.Laws.{on-range, off-keys}
 use Rattle.letters.specs.Classes.{read_calling_conv}
-use Rattle.scan.specs.declared.cursor.Leaf.TheVariants.{Value, Bad}
+use Rattle.std.specs.Prelude.{Ok, Err}
 use Rattle.letters.proofs.Spelled.{up_to-one}
 use Rattle.letters.proofs.calling_conv.Goals as goal
 
@@ -26,12 +26,12 @@ returns-in-73 c = λ rest. rw c.in-73.is
 
 pub returns-in-65-to-66 : goal.returns-in-65-to-66
 unfolding read_calling_conv
-returns-in-65-to-66 c = λ rest. on-range 65 2 (λ c. Value 0 1) (λ c. read_calling_conv (c ∷ rest)) refl c.args.c (omega arith) (omega arith)
+returns-in-65-to-66 c = λ rest. on-range 65 2 (λ c. Ok (0, 1)) (λ c. read_calling_conv (c ∷ rest)) refl c.args.c (omega arith) (omega arith)
 
 pub returns-in_default : goal.returns-in_default
 unfolding read_calling_conv
-returns-in_default c = λ rest. off-keys (73 ∷ 71 ∷ 69 ∷ 67 ∷ []) 0 65 (λ c. Bad 1) (λ c. read_calling_conv (c ∷ rest)) (rw (up_to-one 0 rest)) c.args.c (omega arith) (omega arith) c.in_default.in_default-own.rest
+returns-in_default c = λ rest. off-keys (73 ∷ 71 ∷ 69 ∷ 67 ∷ []) 0 65 (λ c. Err 1) (λ c. read_calling_conv (c ∷ rest)) (rw (up_to-one 0 rest)) c.args.c (omega arith) (omega arith) c.in_default.in_default-own.rest
 
 pub returns-in_default-2 : goal.returns-in_default-2
 unfolding read_calling_conv
-returns-in_default-2 c = λ rest. off-keys (73 ∷ 71 ∷ 69 ∷ 67 ∷ []) 67 189 (λ c. Bad 1) (λ c. read_calling_conv (c ∷ rest)) (rw (up_to-one 0 rest)) c.args.c (omega arith) (omega arith) c.in_default.in_default-own.rest
+returns-in_default-2 c = λ rest. off-keys (73 ∷ 71 ∷ 69 ∷ 67 ∷ []) 67 189 (λ c. Err 1) (λ c. read_calling_conv (c ∷ rest)) (rw (up_to-one 0 rest)) c.args.c (omega arith) (omega arith) c.in_default.in_default-own.rest

@@ -3,7 +3,7 @@ use mathlib.Core.Path.{refl}
 use mathlib.Core.List.{[], ◌∷◌}
 use Rattle.scan.proofs.Laws.{on-range, off-keys}
 use Rattle.letters.specs.Classes.{func_class_letter}
-use Rattle.scan.specs.declared.cursor.Leaf.TheVariants.{Value, Bad}
+use Rattle.std.specs.Prelude.{Ok, Err}
 use Rattle.letters.proofs.Spelled.{up_to-one}
 use borrow.Author.Rules.{rules}
 use Rattle.letters.proofs.func_class.Goals as goal
@@ -98,16 +98,16 @@ returns-in-90 c = λ rest. rw c.in-90.is
 
 pub returns-in-67-to-68 : goal.returns-in-67-to-68
 unfolding func_class_letter
-returns-in-67-to-68 c = λ rest. off-keys (90 ∷ 89 ∷ 88 ∷ 87 ∷ 86 ∷ 85 ∷ 84 ∷ 83 ∷ 82 ∷ 81 ∷ 80 ∷ 79 ∷ 78 ∷ 77 ∷ 76 ∷ 75 ∷ 74 ∷ 73 ∷ 72 ∷ 71 ∷ 66 ∷ 65 ∷ []) 65 4 (λ c. Value 20 1) (λ c. func_class_letter (c ∷ rest)) refl c.args.c c.in-67-to-68.if-c-lt65-own.false c.in-67-to-68.if-c-lt69-own.true c.in-67-to-68.in_default-own.rest
+returns-in-67-to-68 c = λ rest. off-keys (90 ∷ 89 ∷ 88 ∷ 87 ∷ 86 ∷ 85 ∷ 84 ∷ 83 ∷ 82 ∷ 81 ∷ 80 ∷ 79 ∷ 78 ∷ 77 ∷ 76 ∷ 75 ∷ 74 ∷ 73 ∷ 72 ∷ 71 ∷ 66 ∷ 65 ∷ []) 65 4 (λ c. Ok (20, 1)) (λ c. func_class_letter (c ∷ rest)) refl c.args.c c.in-67-to-68.if-c-lt65-own.false c.in-67-to-68.if-c-lt69-own.true c.in-67-to-68.in_default-own.rest
 
 pub returns-in-69-to-70 : goal.returns-in-69-to-70
 unfolding func_class_letter
-returns-in-69-to-70 c = λ rest. on-range 69 2 (λ c. Value 36 1) (λ c. func_class_letter (c ∷ rest)) refl c.args.c c.in-69-to-70.if-c-lt69-own.false c.in-69-to-70.if-c-lt71-own.true
+returns-in-69-to-70 c = λ rest. on-range 69 2 (λ c. Ok (36, 1)) (λ c. func_class_letter (c ∷ rest)) refl c.args.c c.in-69-to-70.if-c-lt69-own.false c.in-69-to-70.if-c-lt71-own.true
 
 pub returns-in_default : goal.returns-in_default
 unfolding func_class_letter
-returns-in_default c = λ rest. off-keys (90 ∷ 89 ∷ 88 ∷ 87 ∷ 86 ∷ 85 ∷ 84 ∷ 83 ∷ 82 ∷ 81 ∷ 80 ∷ 79 ∷ 78 ∷ 77 ∷ 76 ∷ 75 ∷ 74 ∷ 73 ∷ 72 ∷ 71 ∷ 66 ∷ 65 ∷ []) 0 65 (λ c. Bad 1) (λ c. func_class_letter (c ∷ rest)) (rw (up_to-one 0 rest)) c.args.c (search rules) c.in_default.if-c-lt65-own.true c.in_default.in_default-own.rest
+returns-in_default c = λ rest. off-keys (90 ∷ 89 ∷ 88 ∷ 87 ∷ 86 ∷ 85 ∷ 84 ∷ 83 ∷ 82 ∷ 81 ∷ 80 ∷ 79 ∷ 78 ∷ 77 ∷ 76 ∷ 75 ∷ 74 ∷ 73 ∷ 72 ∷ 71 ∷ 66 ∷ 65 ∷ []) 0 65 (λ c. Err 1) (λ c. func_class_letter (c ∷ rest)) (rw (up_to-one 0 rest)) c.args.c (search rules) c.in_default.if-c-lt65-own.true c.in_default.in_default-own.rest
 
 pub returns-in_default-2 : goal.returns-in_default-2
 unfolding func_class_letter
-returns-in_default-2 c = λ rest. off-keys (90 ∷ 89 ∷ 88 ∷ 87 ∷ 86 ∷ 85 ∷ 84 ∷ 83 ∷ 82 ∷ 81 ∷ 80 ∷ 79 ∷ 78 ∷ 77 ∷ 76 ∷ 75 ∷ 74 ∷ 73 ∷ 72 ∷ 71 ∷ 66 ∷ 65 ∷ []) 71 185 (λ c. Bad 1) (λ c. func_class_letter (c ∷ rest)) (rw (up_to-one 0 rest)) c.args.c c.in_default.if-c-lt71-own.false c.ranges.c.fits c.in_default.in_default-own.rest
+returns-in_default-2 c = λ rest. off-keys (90 ∷ 89 ∷ 88 ∷ 87 ∷ 86 ∷ 85 ∷ 84 ∷ 83 ∷ 82 ∷ 81 ∷ 80 ∷ 79 ∷ 78 ∷ 77 ∷ 76 ∷ 75 ∷ 74 ∷ 73 ∷ 72 ∷ 71 ∷ 66 ∷ 65 ∷ []) 71 185 (λ c. Err 1) (λ c. func_class_letter (c ∷ rest)) (rw (up_to-one 0 rest)) c.args.c c.in_default.if-c-lt71-own.false c.ranges.c.fits c.in_default.in_default-own.rest

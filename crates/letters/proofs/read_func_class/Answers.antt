@@ -13,12 +13,12 @@ returns-then-s-at c = rw (past c.args.s.now c.args.at c.if-s-at.true)
 
 pub returns-then-bits-ge-THUNK : goal.returns-then-bits-ge-THUNK
 unfolding read_func_class
-returns-then-bits-ge-THUNK c = rw ((split c.args.s.now c.args.at c.if-s-at.false), sym (c.func_class-letter.ensures (drop (c.args.at + 1) c.args.s.now)) ∙ c.in-Value.is, le-leb _ _ c.if-bits-ge-THUNK.true) c.read_adjustment.ensures
+returns-then-bits-ge-THUNK c = rw ((split c.args.s.now c.args.at c.if-s-at.false), sym (c.func_class-letter.ensures (drop (c.args.at + 1) c.args.s.now)) ∙ c.in-Ok.is, le-leb _ _ c.if-bits-ge-THUNK.true) c.read_adjustment.ensures
 
 pub returns-else-bits-ge-THUNK : goal.returns-else-bits-ge-THUNK
 unfolding read_func_class
-returns-else-bits-ge-THUNK c = rw ((split c.args.s.now c.args.at c.if-s-at.false), sym (c.func_class-letter.ensures (drop (c.args.at + 1) c.args.s.now)) ∙ c.in-Value.is, lt-leb _ _ c.if-bits-ge-THUNK.false)
+returns-else-bits-ge-THUNK c = rw ((split c.args.s.now c.args.at c.if-s-at.false), sym (c.func_class-letter.ensures (drop (c.args.at + 1) c.args.s.now)) ∙ c.in-Ok.is, lt-leb _ _ c.if-bits-ge-THUNK.false)
 
-pub returns-in-Bad : goal.returns-in-Bad
+pub returns-in-Err : goal.returns-in-Err
 unfolding read_func_class
-returns-in-Bad c = rw ((split c.args.s.now c.args.at c.if-s-at.false), sym (c.func_class-letter.ensures (drop (c.args.at + 1) c.args.s.now)) ∙ c.in-Bad.is)
+returns-in-Err c = rw ((split c.args.s.now c.args.at c.if-s-at.false), sym (c.func_class-letter.ensures (drop (c.args.at + 1) c.args.s.now)) ∙ c.in-Err.is)

@@ -3,7 +3,7 @@ use mathlib.Core.Path.{refl}
 use mathlib.Core.List.{[], ◌∷◌}
 use native.Mathlib.Omega.{arith}
 use Rattle.operators.specs.Operators.{read_operator}
-use Rattle.scan.specs.declared.cursor.Leaf.TheVariants.{Bad}
+use Rattle.std.specs.Prelude.{Err}
 use Rattle.scan.proofs.Laws.{off-keys}
 use Rattle.operators.proofs.double_under_operator.Goals as goal
 
@@ -29,4 +29,4 @@ returns-in-74 c = λ rest. rw c.in-74.is
 
 pub returns-in_default : goal.returns-in_default
 unfolding read_operator
-returns-in_default c = λ rest. off-keys (74 ∷ 70 ∷ 69 ∷ 75 ∷ 76 ∷ []) 0 256 (λ c. Bad 2) (λ c. read_operator (95 ∷ 95 ∷ c ∷ rest)) refl c.args.c (omega arith) (omega arith) c.in_default.in_default-own.rest
+returns-in_default c = λ rest. off-keys (74 ∷ 70 ∷ 69 ∷ 75 ∷ 76 ∷ []) 0 256 (λ c. Err 2) (λ c. read_operator (95 ∷ 95 ∷ c ∷ rest)) refl c.args.c (omega arith) (omega arith) c.in_default.in_default-own.rest

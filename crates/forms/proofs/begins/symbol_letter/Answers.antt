@@ -3,7 +3,8 @@ use Prim.Native.Nat.{◌-◌}
 use mathlib.Core.Path.{refl}
 use mathlib.Core.List.{[], ◌∷◌}
 use native.Mathlib.Omega.{arith}
-use Rattle.forms.specs.Begins.{typed, symbol_start}
+use Rattle.forms.specs.Start.{start}
+use Rattle.forms.specs.Begins.{symbol_start}
 use Rattle.forms.specs.declared.begins.SymbolForm.TheVariants.{Variable, Member}
 use Rattle.scan.proofs.Laws.{on-range, off-keys, wide}
 use Rattle.forms.proofs.begins.symbol_letter.Goals as goal
@@ -41,12 +42,12 @@ returns-in-56 c = λ rest. rw c.in-56.is
 
 pub returns-in-48-to-52 : goal.returns-in-48-to-52
 unfolding symbol_start
-returns-in-48-to-52 known = λ rest. on-range 48 5 (λ c. typed (Variable (c - 48)) 1) (λ c. symbol_start (c ∷ rest)) refl known.args.c (omega arith) (omega arith)
+returns-in-48-to-52 known = λ rest. on-range 48 5 (λ c. start (Variable (c - 48)) 1) (λ c. symbol_start (c ∷ rest)) refl known.args.c (omega arith) (omega arith)
 
 pub returns-in_default : goal.returns-in_default
 unfolding symbol_start
-returns-in_default known = λ rest. off-keys (56 ∷ 36 ∷ 95 ∷ 89 ∷ 57 ∷ 55 ∷ 54 ∷ []) 0 48 (λ c. typed Member 0) (λ c. symbol_start (c ∷ rest)) refl known.args.c (omega arith) (omega arith) known.in_default.in_default-own.rest
+returns-in_default known = λ rest. off-keys (56 ∷ 36 ∷ 95 ∷ 89 ∷ 57 ∷ 55 ∷ 54 ∷ []) 0 48 (λ c. start Member 0) (λ c. symbol_start (c ∷ rest)) refl known.args.c (omega arith) (omega arith) known.in_default.in_default-own.rest
 
 pub returns-in_default-2 : goal.returns-in_default-2
 unfolding symbol_start
-returns-in_default-2 known = λ rest. off-keys (56 ∷ 36 ∷ 95 ∷ 89 ∷ 57 ∷ 55 ∷ 54 ∷ []) 53 203 (λ c. typed Member 0) (λ c. symbol_start (c ∷ rest)) refl known.args.c (omega arith) (omega arith) known.in_default.in_default-own.rest
+returns-in_default-2 known = λ rest. off-keys (56 ∷ 36 ∷ 95 ∷ 89 ∷ 57 ∷ 55 ∷ 54 ∷ []) 53 203 (λ c. start Member 0) (λ c. symbol_start (c ∷ rest)) refl known.args.c (omega arith) (omega arith) known.in_default.in_default-own.rest

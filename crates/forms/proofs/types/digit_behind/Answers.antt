@@ -7,10 +7,10 @@ use Rattle.forms.proofs.Starts.{digit_at}
 use Rattle.forms.proofs.types.digit_behind.Goals as goal
 
 pub overflow_add-result : goal.overflow_add-result
-overflow_add-result c = omega (arith, digit_at c.args.s.now (c.args.at + c.args.n) (sym c.read_digit-digit.ensures ∙ c.in-Byte.is))
+overflow_add-result c = omega (arith, digit_at c.args.s.now (c.args.at + c.args.n) (sym c.read_digit.ensures ∙ c.in_ok-d.was))
 
-pub returns-in-Byte : goal.returns-in-Byte
-returns-in-Byte c = rw ((drop-drop c.args.n c.args.at c.args.s.now), sym c.read_digit-digit.ensures ∙ c.in-Byte.is)
+pub returns-in_err-d : goal.returns-in_err-d
+returns-in_err-d c = rw ((drop-drop c.args.n c.args.at c.args.s.now), sym c.read_digit.ensures ∙ c.in_err-d.was) c.from_residual.ensures
 
-pub returns-in-Nothing : goal.returns-in-Nothing
-returns-in-Nothing c = rw ((drop-drop c.args.n c.args.at c.args.s.now), sym c.read_digit-digit.ensures ∙ c.in-Nothing.is)
+pub returns : goal.returns
+returns c = rw ((drop-drop c.args.n c.args.at c.args.s.now), sym c.read_digit.ensures ∙ c.in_ok-d.was)

@@ -2,7 +2,8 @@
 use mathlib.Core.Path.{refl}
 use mathlib.Core.List.{[], ◌∷◌}
 use native.Mathlib.Omega.{arith}
-use Rattle.forms.specs.Types.{start, type_start}
+use Rattle.forms.specs.Start.{start}
+use Rattle.forms.specs.Types.{type_start}
 use Rattle.forms.specs.declared.types.TypeForm.TheVariants.{MemberPointer, Plain}
 use Rattle.scan.proofs.Laws.{on-range, off-keys}
 use Rattle.forms.proofs.types.one_dollar.Goals as goal

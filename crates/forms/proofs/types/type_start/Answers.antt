@@ -4,7 +4,8 @@ use mathlib.Core.Path.{refl}
 use mathlib.Core.List.{[], ◌∷◌}
 use native.Mathlib.Omega.{arith}
 use lib.ListN.{get_or, drop}
-use Rattle.forms.specs.Types.{start, type_start}
+use Rattle.forms.specs.Start.{start}
+use Rattle.forms.specs.Types.{type_start}
 use Rattle.forms.specs.declared.types.TypeForm.TheVariants.{Plain}
 use Rattle.scan.proofs.Laws.{split, past, off-keys}
 use Rattle.forms.proofs.types.type_start.Goals as goal

@@ -3,7 +3,7 @@ use Prim.Native.Nat.{◌+◌}
 use mathlib.Core.Path.{◌≡◌, sym, ap, ◌∙◌}
 use native.Mathlib.Omega.{arith}
 use native.Mathlib.Nat.{add-zero}
-use Rattle.scan.specs.declared.cursor.Leaf.TheVariants.{Value}
+use Rattle.std.specs.Prelude.{Ok}
 use Rattle.scan.proofs.Numbers.{letters-end, letters-done, letters-more, letters-low, letters-high}
 use borrow.Author.Rules.{rules}
 use Rattle.scan.proofs.number.read_letters.Goals as goal
@@ -21,7 +21,7 @@ pub returns-then-s-i : goal.returns-then-s-i
 returns-then-s-i c = sym (c.loop-i.invariant.3 ∙ letters-end _ _ _ _ _ c.if-s-i.true)
 
 pub returns-in-64 : goal.returns-in-64
-returns-in-64 c = sym (c.loop-i.invariant.3 ∙ letters-done _ _ _ _ _ c.if-s-i.false c.in-64.is ∙ ap (λ v. Value v ((c.sign_len-before.result + c.loop-i.n) + 1)) (sym c.signed_bits.ensures))
+returns-in-64 c = sym (c.loop-i.invariant.3 ∙ letters-done _ _ _ _ _ c.if-s-i.false c.in-64.is ∙ ap (λ v. Ok (v, (c.sign_len-before.result + c.loop-i.n) + 1)) (sym c.signed_bits.ensures))
 
 pub returns-in_default : goal.returns-in_default
 returns-in_default c = sym (c.loop-i.invariant.3 ∙ elim c.in_default.branch [

@@ -5,7 +5,7 @@ use lib.ListN.{get_or}
 use borrow.Author.Tests.{le-leb}
 use native.Mathlib.Omega.{arith}
 use Rattle.scan.specs.Number.{magnitude}
-use Rattle.scan.specs.declared.cursor.Leaf.TheVariants.{Bad}
+use Rattle.std.specs.Prelude.{Err}
 use Rattle.scan.proofs.Laws.{split, past}
 use Rattle.scan.proofs.Numbers.{magnitude-low, magnitude-high}
 use Rattle.scan.proofs.number.read_magnitude.Goals as goal
@@ -13,7 +13,7 @@ use Rattle.scan.proofs.number.read_magnitude.Goals.{in_default-via-then-c-lt48, 
 
 pub returns-then-s-from : goal.returns-then-s-from
 unfolding magnitude
-returns-then-s-from c = rw (past c.args.s.now c.args.from c.if-s-from.true) (ap Bad c.sign_len.ensures)
+returns-then-s-from c = rw (past c.args.s.now c.args.from c.if-s-from.true) (ap Err c.sign_len.ensures)
 
 pub returns-in-48-to-57 : goal.returns-in-48-to-57
 unfolding magnitude

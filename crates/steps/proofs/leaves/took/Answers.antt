@@ -4,13 +4,13 @@ use Rattle.steps.specs.Does.{LeafRoom}
 use Rattle.steps.proofs.leaves.took.Goals as goal
 
 pub past-requires : goal.past-requires
-past-requires c = subst (LeafRoom c.args.st.at) c.in-Value.is c.requires
+past-requires c = subst (LeafRoom c.args.st.at) c.in-Ok.is c.requires
 
-pub past-requires-in-Bad : goal.past-requires-in-Bad
-past-requires-in-Bad c = subst (LeafRoom c.args.st.at) c.in-Bad.is c.requires
+pub past-requires-in-Err : goal.past-requires-in-Err
+past-requires-in-Err c = subst (LeafRoom c.args.st.at) c.in-Err.is c.requires
 
-pub returns-in-Value : goal.returns-in-Value
-returns-in-Value c = rw (c.in-Value.is, c.past.ensures)
+pub returns-in-Ok : goal.returns-in-Ok
+returns-in-Ok c = rw (c.in-Ok.is, c.past.ensures)
 
-pub returns-in-Bad : goal.returns-in-Bad
-returns-in-Bad c = rw (c.in-Bad.is, c.past-in-Bad.ensures)
+pub returns-in-Err : goal.returns-in-Err
+returns-in-Err c = rw (c.in-Err.is, c.past-in-Err.ensures)
