@@ -22,6 +22,9 @@ pub struct Class {
     pub taken: usize,
 }
 
+// No letter stands here.
+const ABSENT: Class = Class { bits: 0, taken: 0 };
+
 fn calling_conv(c: u8) -> Leaf
     ensures { (rest : List ℕ) → result ≡ read_calling_conv (c ∷ rest) }
 {
@@ -95,16 +98,11 @@ pub fn read_func_class(s: &[u8], at: usize) -> Leaf
     if s.len() <= at {
         return Err(0);
     }
-    let letter = func_class(s[at]);
-    match letter {
-        Ok((bits, n)) => {
-            if THUNK <= bits {
-                read_adjustment(s, at + 1, bits)
-            } else {
-                Ok((bits, n))
-            }
-        }
-        Err(n) => Err(n),
+    let (bits, n) = func_class(s[at])?;
+    if THUNK <= bits {
+        read_adjustment(s, at + 1, bits)
+    } else {
+        Ok((bits, n))
     }
 }
 
@@ -121,7 +119,7 @@ fn storage_class(c: u8) -> Class
             bits: (c - b'Q') as u32,
             taken: 1,
         },
-        _ => Class { bits: 0, taken: 0 },
+        _ => ABSENT,
     }
 }
 
@@ -131,7 +129,7 @@ pub fn read_storage_class(s: &[u8], at: usize) -> Class
     if at < s.len() {
         storage_class(s[at])
     } else {
-        Class { bits: 0, taken: 0 }
+        ABSENT
     }
 }
 
@@ -147,7 +145,7 @@ fn qualifier(c: u8) -> Class
             bits: (c - b'Q') as u32,
             taken: 1,
         },
-        _ => Class { bits: 0, taken: 0 },
+        _ => ABSENT,
     }
 }
 
@@ -157,7 +155,7 @@ pub fn read_qualifier(s: &[u8], at: usize) -> Class
     if at < s.len() {
         qualifier(s[at])
     } else {
-        Class { bits: 0, taken: 0 }
+        ABSENT
     }
 }
 
@@ -198,7 +196,7 @@ fn optional_letter(s: &[u8], at: usize, letter: u8, bits: u32) -> Class
             return Class { bits, taken: 1 };
         }
     }
-    Class { bits: 0, taken: 0 }
+    ABSENT
 }
 
 // `G` or `H`: the reference qualifier.
@@ -207,7 +205,7 @@ fn ref_qualifier(s: &[u8], at: usize) -> Class
     ensures { result ≡ ref_qualifier (drop at s.now) }
 {
     if s.len() <= at {
-        return Class { bits: 0, taken: 0 };
+        return ABSENT;
     }
     let c = s[at];
     match c {
@@ -219,7 +217,7 @@ fn ref_qualifier(s: &[u8], at: usize) -> Class
             bits: RVALUE_QUAL,
             taken: 1,
         },
-        _ => Class { bits: 0, taken: 0 },
+        _ => ABSENT,
     }
 }
 
@@ -227,7 +225,7 @@ pub fn read_func_qualifiers(s: &[u8], at: usize) -> Class
     ensures { result ≡ read_func_qualifiers (drop at s.now) }
 {
     if s.len() <= at {
-        return Class { bits: 0, taken: 0 };
+        return ABSENT;
     }
     let ptr64 = optional_letter(s, at, b'E', PTR64);
     let a = ptr64.taken;

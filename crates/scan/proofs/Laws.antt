@@ -7,13 +7,20 @@ use mathlib.Core.List.{List, [], ◌∷◌, map}
 use native.Mathlib.Numerals.{add-one}
 use native.Mathlib.Omega.{arith}
 use native.Mathlib.Nat.{add-zero, add-suc, suc-add, min-eq_left}
-use lib.ListN.{length, get_or, drop, drop_of_length-le}
+use lib.ListN.{length, get_or, take, drop, drop_of_length-le}
 use lib.Seq.{drop-cons}
-use lib.Dec.{eqb}
-use borrow.Author.Tests.{ne_eqb}
+use lib.Dec.{eqb, leb}
+use borrow.Author.Tests.{eq-eqb, ne_eqb, eqb-true, eqb-false, leb-true}
 use mir.Val.{Fits}
 use mir.Syntax.{w8, w32}
-use Rattle.scan.specs.Bytes.{pick, up_to}
+use Rattle.std.specs.Prelude.{Option, Some, Result, Err, ◌&&◌}
+use Rattle.std.specs.Option.{option_copied, ok_or}
+use Rattle.std.specs.Slice.{IsItemAt}
+use Rattle.std.proofs.Common.{Bor}
+use Rattle.std.specs.Prelude as std
+use Rattle.std.specs.Cmp.Lexicographic.{pointwise}
+use Rattle.scan.specs.Bytes.{pick, up_to, starts, is_digit}
+use Rattle.scan.specs.Cursor.{get_byte}
 
 -- what remains: a byte and the rest, or nothing
 pub split : (s : List ℕ) (at : ℕ) → at < length s → drop at s ≡ get_or s at 0 ∷ drop (at + 1) s
@@ -21,6 +28,50 @@ split s at h = rw (add-one, drop-cons s at 0 h)
 
 pub past : (s : List ℕ) (at : ℕ) → length s ≤ at → drop at s ≡ []
 past s at h = drop_of_length-le s h
+
+-- the byte at a place, or none, is the first of what remains
+pub byte-at : (s : List ℕ) (at : ℕ) (r : Option (Bor ℕ)) → IsItemAt s at r → option_copied r ≡ get_byte (drop at s)
+unfolding get_byte
+byte-at s at (Some x) h = rw (split s at h.3.0) (ap Some (h.3.1 0))
+byte-at s at std.None h = rw (past s at h.3)
+
+pub got : (r : List ℕ) {c : ℕ} → get_byte r ≡ Some c → r ≡ c ∷ drop 1 r
+unfolding get_byte
+got [] e = cc
+got (b ∷ r) {c} e = let same : b ≡ c = cc in ap (λ x. x ∷ r) same
+
+pub ended : (r : List ℕ) → get_byte r ≡ std.None → r ≡ []
+unfolding get_byte
+ended [] e = refl
+ended (b ∷ r) e = cc
+
+-- what `?` hands on where no byte is left
+pub refused-at : (o : Option ℕ) {k e : ℕ} → ◌≡◌ {A = Result ℕ ℕ} (Err e) (ok_or o k) → o ≡ std.None → e ≡ k
+refused-at (Some x) e n = cc
+refused-at std.None e n = cc
+
+first-test : (a b : Bool) → pick a b false ≡ true → a ≡ true
+first-test true b e = refl
+first-test false b e = e
+
+pub digit-low : (c : ℕ) → is_digit c ≡ true → 48 ≤ c
+digit-low c e = leb-true 48 c (first-test (leb 48 c) (leb c 57) e)
+
+-- a literal stands here where as many bytes are the literal's
+eqb-swap : (a b : ℕ) (x : Bool) → eqb b a ≡ x → eqb a b ≡ x
+eqb-swap a b true e = eq-eqb a b (sym (eqb-true b a e))
+eqb-swap a b false e = ne_eqb a b (λ h. eqb-false b a e (sym h))
+
+both : (a b more : Bool) → a ≡ b → pick a more false ≡ (b && more)
+both true true more e = refl
+both true false more e = cc
+both false true more e = cc
+both false false more e = refl
+
+pub starts-same : (bs r : List ℕ) → pointwise eqb bs (take (length bs) r) ≡ starts bs r
+starts-same [] r = refl
+starts-same (b ∷ bs) [] = refl
+starts-same (b ∷ bs) (c ∷ r) = ap (λ m. eqb b c && m) (starts-same bs r) ∙ sym (both (eqb c b) (eqb b c) (starts bs r) (eqb-swap c b (eqb b c) refl))
 
 -- the n bytes from low on
 abbrev pub range : ℕ → ℕ → List ℕ

@@ -1,5 +1,5 @@
 -- The parts of names. Assumes nothing: these are definitions.
-use Rattle.std.specs.Prelude.{ℕ, ◌+◌, Bool, true, false, List, [], ◌∷◌, drop, eqb, Ok, Err}
+use Rattle.std.specs.Prelude.{ℕ, ◌+◌, List, [], ◌∷◌, drop, eqb, Ok, Err}
 use Rattle.scan.specs.Bytes.{pick, is, is_hex, bytes, starts}
 use Rattle.scan.specs.Cursor.{Span}
 
@@ -10,11 +10,6 @@ string_from n (c ∷ r) = pick (is "@" c) (Ok (n + 1)) (string_from (n + 1) r)
 
 abbrev pub read_string : List ℕ → Span
 read_string r = string_from 0 r
-
--- whether an `@` is among the bytes: no function of the crate, but what our search asks of a block
-unfoldable pub has_at : List ℕ → Bool
-has_at [] = false
-has_at (c ∷ r) = pick (is "@" c) true (has_at r)
 
 -- how many hex digits stand here, of either case
 unfoldable pub hex_digits_from : ℕ → List ℕ → ℕ

@@ -1,5 +1,5 @@
 -- Numbers, as their 32 bits. Assumes nothing: these are definitions.
-use Rattle.std.specs.Prelude.{ℕ, ◌+◌, ◌*◌, ◌-◌, ◌%◌, ◌^◌, Bool, true, false, List, [], ◌∷◌, ltb, Ok, Err}
+use Rattle.std.specs.Prelude.{ℕ, ◌+◌, ◌*◌, ◌-◌, ◌%◌, ◌^◌, Bool, true, false, List, [], ◌∷◌, leb, ltb, Option, Some, None, Ok, Err}
 use Prim.Native.Char.{code}
 use Rattle.scan.specs.Bytes.{pick, is, between, is_digit}
 use Rattle.scan.specs.Cursor.{Leaf}
@@ -11,6 +11,21 @@ signed neg v = pick neg ((2 ^ 32 - v) % 2 ^ 32) v
 -- the bytes before the magnitude: the `?`
 abbrev pub sign : Bool → ℕ
 sign neg = pick neg 1 0
+
+-- the digit that a byte stands for, where the lowest of so many digits is the byte low
+abbrev pub digit_in : ℕ → ℕ → ℕ → Option ℕ
+digit_in low base c = pick (leb low c) (pick (ltb (c - low) base) (Some (c - low)) None) None
+
+abbrev pub with_digit : Option ℕ → (ℕ → Leaf) → Leaf → Leaf
+with_digit (Some d) f other = f d
+with_digit None f other = other
+
+-- digits up to `@`: n bytes are taken and the value is v. High bits are dropped. Our readers of both kinds of digits are this one
+unfoldable pub digits : ℕ → ℕ → ℕ → ℕ → List ℕ → Leaf
+digits low base n v [] = Err n
+digits low base n v (c ∷ r) =
+    pick (is "@" c) (Ok (v, n + 1))
+    (with_digit (digit_in low base c) (λ d. digits low base (n + 1) ((v * base + d) % 2 ^ 32) r) (Err n))
 
 -- letters A to P up to `@`: n bytes are taken and the value is v. High bits are dropped.
 -- A bad number is refused at the byte that does not belong, or at the end; by the crate at its first letter.

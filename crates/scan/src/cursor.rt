@@ -1,6 +1,6 @@
 // The cursor: a byte, a literal, a digit.
 ghost use Rattle.std.specs.Prelude.{◌≡◌, List, ◌∷◌, ℕ, ◌<◌, drop};
-ghost use Rattle.scan.specs.Bytes.{starts, is_hex};
+ghost use Rattle.scan.specs.Bytes.{starts, is_digit, is_hex};
 ghost use Rattle.scan.specs.Cursor.{get_byte, expect_literal, read_digit, read_hex_digit};
 
 // What a leaf reads: a value and how many bytes it took, or how many it took before it was refused.
@@ -12,26 +12,21 @@ pub type Span = Result<usize, usize>;
 pub fn get(s: &[u8], at: usize) -> Option<u8>
     ensures { result ≡ get_byte (drop at s.now) }
 {
-    if at < s.len() { Some(s[at]) } else { None }
+    s.get(at).copied()
+}
+
+// What remains of the symbol at a place; past the end nothing does.
+pub(crate) fn rest(s: &[u8], at: usize) -> &[u8]
+    ensures { result.now ≡ drop at s.now }
+{
+    &s[at.min(s.len())..]
 }
 
 // Whether the literal stands here: the caller then goes on behind it.
 pub fn consume(literal: &[u8], s: &[u8], at: usize) -> bool
     ensures { result ≡ starts literal.now (drop at s.now) }
 {
-    let mut i = 0;
-    let mut k = at;
-    while i < literal.len() {
-        if s.len() <= k {
-            return false;
-        }
-        if s[k] != literal[i] {
-            return false;
-        }
-        i += 1;
-        k += 1;
-    }
-    true
+    rest(s, at).starts_with(literal)
 }
 
 pub fn expect(literal: &[u8], s: &[u8], at: usize) -> Span
@@ -44,37 +39,30 @@ pub fn expect(literal: &[u8], s: &[u8], at: usize) -> Span
     }
 }
 
-fn digit_of(c: u8) -> Option<u8>
-    ensures { (rest : List ℕ) → result ≡ read_digit (c ∷ rest) }
+pub fn read_digit(s: &[u8], at: usize) -> Option<u8>
+    ensures { result ≡ read_digit (drop at s.now) }
 {
-    match c {
-        b'0'..=b'9' => Some(c - b'0'),
+    match get(s, at)? {
+        c @ b'0'..=b'9' => Some(c - b'0'),
         _ => None,
     }
 }
 
-pub fn read_digit(s: &[u8], at: usize) -> Option<u8>
-    ensures { result ≡ read_digit (drop at s.now) }
+pub(crate) fn is_digit(c: u8) -> bool
+    ensures { result ≡ is_digit c }
 {
-    if at < s.len() { digit_of(s[at]) } else { None }
+    c.is_ascii_digit()
 }
 
 pub fn is_hex(c: u8) -> bool
     ensures { result ≡ is_hex c }
 {
-    match c {
-        b'0'..=b'9' | b'a'..=b'f' | b'A'..=b'F' => true,
-        _ => false,
-    }
+    c.is_ascii_hexdigit()
 }
 
 pub fn read_hex_digit(s: &[u8], at: usize) -> Option<u8>
     ensures { result ≡ read_hex_digit (drop at s.now) }
 {
-    if at < s.len() {
-        let c = s[at];
-        if is_hex(c) { Some(c) } else { None }
-    } else {
-        None
-    }
+    let c = get(s, at)?;
+    if is_hex(c) { Some(c) } else { None }
 }

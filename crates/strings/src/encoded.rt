@@ -79,10 +79,7 @@ fn read_escape(s: &[u8], at: usize) -> Leaf
 fn is_plain(c: u8) -> bool
     ensures { result ≡ is_plain c }
 {
-    match c {
-        b'0'..=b'9' | b'a'..=b'z' | b'A'..=b'Z' | b'_' | b'$' => true,
-        _ => false,
-    }
+    matches!(c, b'0'..=b'9' | b'a'..=b'z' | b'A'..=b'Z' | b'_' | b'$')
 }
 
 // One character: its byte and the bytes taken.
@@ -107,19 +104,12 @@ fn read_characters(s: &[u8], at: usize, count: usize) -> Span
     requires { at ≤ length s.now }
     ensures { result ≡ characters count 0 (drop at s.now) }
 {
-    let mut left = count;
     let mut i = at;
-    while 0 < left {
-        let c = read_character(s, i);
-        match c {
-            Ok((_, n)) => {
-                i += n;
-            }
-            Err(n) => {
-                return Err(i - at + n);
-            }
+    for _ in 0..count {
+        match read_character(s, i) {
+            Ok((_, n)) => i += n,
+            Err(n) => return Err(i - at + n),
         }
-        left -= 1;
     }
     Ok(i - at)
 }
@@ -131,12 +121,7 @@ fn kept_count(declared: u32, width: u8) -> usize
     if 0x8000_0000 <= declared {
         return 0;
     }
-    let most = 32 * (width as u32);
-    if declared < most {
-        declared as usize
-    } else {
-        most as usize
-    }
+    declared.min(32 * (width as u32)) as usize
 }
 
 // The characters, behind the length and the checksum.
@@ -158,15 +143,9 @@ fn read_strung(s: &[u8], at: usize, start: usize, declared: u32, width: u8) -> E
 pub fn read_encoded_string(s: &[u8], at: usize, width: u8) -> Encoded
     ensures { result ≡ read_encoded_string width (drop at s.now) }
 {
-    let length = read_number(s, at);
-    match length {
-        Ok((v, a)) => {
-            let checksum = read_number(s, at + a);
-            match checksum {
-                Ok((_, b)) => read_strung(s, at + a + b, a + b, v, width),
-                Err(b) => Err(a + b),
-            }
-        }
-        Err(a) => Err(a),
+    let (length, a) = read_number(s, at)?;
+    match read_number(s, at + a) {
+        Ok((_, b)) => read_strung(s, at + a + b, a + b, length, width),
+        Err(b) => Err(a + b),
     }
 }

@@ -93,7 +93,7 @@ returns-in-20 c = rw c.in-20.is (c.of_leaf-in-20.ensures ∙ ap of_leaf c.read_g
 
 pub returns-in-21 : goal.returns-in-21
 unfolding leaf_reply
-returns-in-21 c = rw c.in-21.is (c.of_type_start.ensures ∙ ap of_type_start c.type_start.ensures)
+returns-in-21 c = rw c.in-21.is (c.of_start.ensures ∙ ap of_type_start c.type_start.ensures)
 
 pub returns-in-22 : goal.returns-in-22
 unfolding leaf_reply
@@ -101,15 +101,15 @@ returns-in-22 c = rw c.in-22.is (c.of_reference.ensures ∙ ap of_reference c.ty
 
 pub returns-in-23 : goal.returns-in-23
 unfolding leaf_reply
-returns-in-23 c = rw c.in-23.is (c.of_name_start.ensures ∙ ap of_name_start c.name_start.ensures)
+returns-in-23 c = rw c.in-23.is (c.of_start-in-23.ensures ∙ ap of_name_start c.name_start.ensures)
 
 pub returns-in-24 : goal.returns-in-24
 unfolding leaf_reply
-returns-in-24 c = rw c.in-24.is (c.of_parse_start.ensures ∙ ap of_parse_start c.parse_start.ensures)
+returns-in-24 c = rw c.in-24.is (c.of_start-in-24.ensures ∙ ap of_parse_start c.parse_start.ensures)
 
 pub returns-in-25 : goal.returns-in-25
 unfolding leaf_reply
-returns-in-25 c = rw c.in-25.is (c.of_symbol_start.ensures ∙ ap of_symbol_start c.symbol_start.ensures)
+returns-in-25 c = rw c.in-25.is (c.of_start-in-25.ensures ∙ ap of_symbol_start c.symbol_start.ensures)
 
 pub returns-in-26 : goal.returns-in-26
 unfolding leaf_reply

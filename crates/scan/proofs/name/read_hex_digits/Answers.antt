@@ -1,23 +1,16 @@
 -- Assumes nothing.
-use Prim.Native.Nat.{◌-◌, ◌+◌}
-use mathlib.Core.Path.{◌≡◌, sym, ap, ◌∙◌}
-use native.Mathlib.Omega.{arith}
-use lib.ListN.{drop}
-use Rattle.scan.specs.Name.{hex_digits_from}
-use Rattle.scan.proofs.Laws.{split, past}
+use Rattle.std.proofs.Common.{◌∙◌, ap, rules, tests}
+use Rattle.std.proofs.lemmas.Iterator.{YieldsList-from_slice}
+use Rattle.std.proofs.lemmas.Iterator.Consumers.{count_from_yields_List}
+use Rattle.std.proofs.lemmas.Iterator.Search.{YieldsList-from_take_while}
+use Rattle.std.proofs.lemmas.List.Folds.{length-prefix_len}
+use Rattle.scan.specs.Bytes.{is_hex}
+use Rattle.scan.specs.Name.{read_hex_digits}
+use Rattle.scan.proofs.Names.{hex-digits}
 use Rattle.scan.proofs.name.read_hex_digits.Goals as goal
 
-pub loop-i-init : goal.loop-i-init
-loop-i-init c = (omega arith, let e : 0 ≡ c.args.at - c.args.at = omega arith in ap (λ n. hex_digits_from n (drop c.args.at c.args.s.now)) e)
-
-pub loop-i-preserved : goal.loop-i-preserved
-unfolding hex_digits_from
-loop-i-preserved c = (omega arith, c.loop-i.invariant.1 ∙ (rw (split c.args.s.now c.loop-i.i c.loop-i-test.true, sym c.is_hex.ensures ∙ c.if-is_hex.true)) ∙ (let e : c.loop-i.i - c.args.at + 1 ≡ c.loop-i.i + 1 - c.args.at = omega arith in ap (λ n. hex_digits_from n (drop (c.loop-i.i + 1) c.args.s.now)) e))
-
-pub returns-else-is_hex : goal.returns-else-is_hex
-unfolding hex_digits_from
-returns-else-is_hex c = sym (c.loop-i.invariant.1 ∙ rw (split c.args.s.now c.loop-i.i c.loop-i-test.true, sym c.is_hex.ensures ∙ c.if-is_hex.false))
-
 pub returns : goal.returns
-unfolding hex_digits_from
-returns c = sym (c.loop-i.invariant.1 ∙ rw (past c.args.s.now c.loop-i.i c.loop-i-test.false))
+returns c =
+    let r = c.rest.result.now in
+    count_from_yields_List c.take_while.result _ c.count.ensures.ran (YieldsList-from_take_while _ is_hex (YieldsList-from_slice r cc) c.take_while.ensures.closure c.take_while.ensures.done (λ x b q k. search (rules, tests)))
+    ∙ length-prefix_len is_hex r ∙ hex-digits r ∙ ap read_hex_digits c.rest.ensures

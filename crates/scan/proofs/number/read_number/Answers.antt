@@ -1,19 +1,19 @@
 -- Assumes nothing.
-use mathlib.Core.Path.{sym, ◌∙◌}
-use borrow.Author.Tests.{eq-eqb}
+use Rattle.std.proofs.Common.{eqb, sym, ◌∙◌, arith}
+use Rattle.std.proofs.lemmas.Result.{err_from_is_err_and}
 use Rattle.scan.specs.Number.{read_number}
-use Rattle.scan.proofs.Laws.{split, past}
-use Rattle.scan.proofs.Numbers.{number-plain}
-use mathlib.Core.Bool.{false}
+use Rattle.scan.proofs.Laws.{ended, refused-at}
+use Rattle.scan.proofs.Numbers.{inside, number-from, sign-small}
 use Rattle.scan.proofs.number.read_number.Goals as goal
 
-pub returns-then-s-at : goal.returns-then-s-at
+pub returns-in_err-c : goal.returns-in_err-c
 unfolding read_number
-returns-then-s-at c = rw (past c.args.s.now c.args.at c.if-s-at.true)
+returns-in_err-c c =
+    let p = err_from_is_err_and c.from_residual.result c.from_residual.ensures.1 in
+    rw (ended _ (sym c.get.ensures ∙ c.in_err-c.ensures.ok_part), p.1, p.2, refused-at _ c.in_err-c.ensures.value c.in_err-c.ensures.ok_part)
 
-pub returns-then-s-at-eq63 : goal.returns-then-s-at-eq63
-unfolding read_number
-returns-then-s-at-eq63 c = rw (split c.args.s.now c.args.at c.if-s-at.false, eq-eqb _ _ c.if-s-at-eq63.true) c.read_magnitude.ensures
+pub read_magnitude-requires : goal.read_magnitude-requires
+read_magnitude-requires c = omega (arith, inside c.args.s.now c.args.at (sym c.get.ensures ∙ c.in_ok-c.ensures.ok_part), sign-small (eqb c.in_ok-c.c 63))
 
-pub returns-else-s-at-eq63 : goal.returns-else-s-at-eq63
-returns-else-s-at-eq63 c = c.read_magnitude-else-s-at-eq63.ensures ∙ sym (number-plain false c.args.s.now c.args.at c.if-s-at.false c.if-s-at-eq63.false)
+pub returns : goal.returns
+returns c = c.read_magnitude.ensures ∙ number-from c.args.s.now c.args.at (sym c.get.ensures ∙ c.in_ok-c.ensures.ok_part)
