@@ -1,67 +1,50 @@
 -- A whole reading: what its readers give is what the written grammar's own demands settle, and what it leaves is fixed. Assumes nothing.
-use Prim.Native.Nat.{ℕ, ◌*◌, ◌≤◌, ◌<◌, min}
+use Prim.Native.Nat.{ℕ, ◌*◌, ◌≤◌, min}
 use mathlib.Core.Path.{◌≡◌, refl, sym, ap, subst, ◌∙◌}
 use mathlib.Core.List.{List, ◌++◌}
-use mathlib.Core.Bool.{Bool, true, false}
+use mathlib.Core.Bool.{true}
 use native.Mathlib.Omega.{arith}
-use borrow.Author.Tests.{le-leb, lt-leb}
-use lib.Dec.{leb}
+use borrow.Author.Tests.{le-leb}
 use lib.ListN.{length, drop, replicate}
-use Rattle.scan.specs.Bytes.{pick}
+use Rattle.std.specs.Prelude.{Result, Ok, Err}
 use Rattle.node.specs.Cells.{nodes}
-use Rattle.grammar.specs.Program.{found, refused, Out}
+use Rattle.grammar.specs.Program.{found, refused, Out, out}
 use Rattle.grammar.specs.Table.{read_table}
 use Rattle.grammar.specs.Grammar.{Parse, body}
 use Rattle.grammar.specs.declared.State.{State}
 use Rattle.grammar.specs.declared.Refusal.{Refusal}
 use Rattle.grammar.proofs.Table.{Agree, used-fits, cleared, capped-held}
-use Rattle.steps.specs.Does.{lent, full, plain, goes, Reads}
-use Rattle.steps.specs.declared.state.Spot.{Spot}
-use Rattle.steps.specs.declared.state.Got.{Got}
-use Rattle.steps.specs.declared.state.Answer.TheVariants as answer
+use Rattle.steps.specs.Does.{replied, Reads}
+use Rattle.steps.specs.declared.reader.Reader.{Reader}
 use Rattle.reader.specs.Whole.{start, whole, inside, answered, table_left}
-use Rattle.reader.specs.declared.Whole.TheVariants.{Outside, Root, Refused}
+use Rattle.reader.specs.declared.Unread.TheVariants.{Refused}
 use Rattle.scan.specs.Limits.{longest_symbol, Short, deepest_reading, most_nodes}
 
 inside-true : (s : List ℕ) (limit : ℕ) → Short s → limit ≤ deepest_reading → inside s limit ≡ true
 inside-true s limit short low = rw (le-leb (length s) longest_symbol short, le-leb limit deepest_reading low)
 
-pub outside-long : (s : List ℕ) (limit : ℕ) → longest_symbol < length s → inside s limit ≡ false
-outside-long s limit long = rw (lt-leb (length s) longest_symbol long)
-
-outside-at : (b c : Bool) → c ≡ false → pick b c false ≡ false
-outside-at true c e = e
-outside-at false c e = refl
-
-pub outside-deep : (s : List ℕ) (limit : ℕ) → deepest_reading < limit → inside s limit ≡ false
-outside-deep s limit deep = outside-at (leb (length s) longest_symbol) (leb limit deepest_reading) (lt-leb limit deepest_reading deep)
-
-pub told-outside : (s : List ℕ) (limit : ℕ) (t : List ℕ) {st : State} → st ≡ start → inside s limit ≡ false → (record { answer = Outside; state = st } ≡ answered s limit t) × (t ≡ table_left s limit t)
-told-outside s limit t e f = (rw (e, f), rw f)
-
-module _
-    {s t t₁ names types names₁ types₁ : List ℕ} {limit room : ℕ} {st : Spot} {g : Got} (short : Short s) (low : limit ≤ deepest_reading) (first : full st (lent t names types) ≡ start) (rooms : room ≡ min most_nodes (nodes t))
-    (reads : Reads s limit room limit Parse st (lent t names types) plain g (lent t₁ names₁ types₁)) where
-  agrees : Agree t (goes plain g (lent t₁ names₁ types₁)) (whole s limit t)
+module _ {r : Reader} {t t₁ : List ℕ} {st : State} {g : Result ℕ Refusal} (low : r.depth ≤ deepest_reading) (rooms : r.room ≡ min most_nodes (nodes t)) (reads : Reads r r.depth Parse start t g st t₁) where
+  agrees : Agree t (out (replied g) st t₁) (whole r.s.now r.depth t)
   agrees =
-      subst (λ (o : Out ℕ (List ℕ)). Agree t o (whole s limit t)) (sym (reads.is ∙ ap (λ (x : State). read_table body s limit room limit Parse x t) first ∙ ap (λ (r : ℕ). read_table body s limit r limit Parse start t) rooms))
-      (capped-held s t start refl refl refl limit most_nodes low (omega (arith, short)))
+      let short : Short r.s.now = r.short in
+      subst (λ (o : Out ℕ (List ℕ)). Agree t o (whole r.s.now r.depth t)) (sym (reads.is ∙ ap (λ (room : ℕ). read_table body r.s.now r.depth room r.depth Parse start t) rooms))
+      (capped-held r.s.now t start refl refl refl r.depth most_nodes low (omega (arith, short)))
 
-  pub counted-fits : g.state.used * 12 ≤ length t₁
-  counted-fits = used-fits (goes plain g (lent t₁ names₁ types₁)) (whole s limit t) agrees
+  pub counted-fits : st.used * 12 ≤ length t₁
+  counted-fits = used-fits (out (replied g) st t₁) (whole r.s.now r.depth t) agrees
 
-  pub told-found : {n : ℕ} → g.answer ≡ answer.Node n → (record { answer = Root n; state = full g.state (lent t₁ names₁ types₁) } ≡ answered s limit t) × (t₁ ≡ table_left s limit t)
+  pub told-found : {n : ℕ} → g ≡ Ok n → (record { answer = Ok n; state = st } ≡ answered r.s.now r.depth t) × (t₁ ≡ table_left r.s.now r.depth t)
   told-found {n} e =
       let a = agrees in
-      let r : found n ≡ (whole s limit t).reply = (rw e refl) ∙ a.reply in
-      let i = inside-true s limit short low in
-      (rw (i, sym r, a.state), rw (i, sym r, a.holds.long) a.holds.is)
+      let q : found n ≡ (whole r.s.now r.depth t).reply = (rw e refl) ∙ a.reply in
+      let i = inside-true r.s.now r.depth r.short low in
+      (rw (i, sym q, a.state), rw (i, sym q, a.holds.long) a.holds.is)
 
   pub told-refused :
-      {why : Refusal} {t₂ : List ℕ} → g.answer ≡ answer.Refused why → t₂ ≡ replicate (g.state.used * 12) 0 ++ drop (g.state.used * 12) t₁ →
-      (record { answer = Refused why; state = full g.state (lent t₁ names₁ types₁) } ≡ answered s limit t) × (t₂ ≡ table_left s limit t)
+      {why : Refusal} {t₂ : List ℕ} → g ≡ Err why → t₂ ≡ replicate (st.used * 12) 0 ++ drop (st.used * 12) t₁ →
+      (record { answer = Err (Refused why); state = st } ≡ answered r.s.now r.depth t) × (t₂ ≡ table_left r.s.now r.depth t)
   told-refused {why} e z =
       let a = agrees in
-      let r : refused why ≡ (whole s limit t).reply = (rw e refl) ∙ a.reply in
-      let i = inside-true s limit short low in
-      (rw (i, sym r, a.state), rw (i, sym r, a.holds.long) (z ∙ cleared (goes plain g (lent t₁ names₁ types₁)) (whole s limit t) a))
+      let q : refused why ≡ (whole r.s.now r.depth t).reply = (rw e refl) ∙ a.reply in
+      let i = inside-true r.s.now r.depth r.short low in
+      (rw (i, sym q, a.state), rw (i, sym q, a.holds.long) (z ∙ cleared (out (replied g) st t₁) (whole r.s.now r.depth t) a))

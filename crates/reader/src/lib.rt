@@ -1,9 +1,9 @@
 // The whole reading of a symbol into a lent node table: what it answers, and what it leaves.
 #![tactic(auto)]
 
-ghost use Rattle.std.specs.Prelude.{◌≡◌, [], ◌++◌, ◌≤◌, min, length, drop, replicate};
+ghost use Rattle.std.specs.Prelude.{◌≡◌, min};
 ghost use Rattle.node.specs.Cells.{nodes};
-ghost use Rattle.reader.specs.Whole.{answered, table_left};
+ghost use Rattle.reader.specs.Whole.{unread_number, answered, table_left};
 ghost use Rattle.scan.specs.Limits.{most_nodes};
 
 use cycle::parse;
@@ -12,30 +12,32 @@ use scan::limits::{DEEPEST_READING, LONGEST_SYMBOL, MOST_NODES};
 use steps::memo::EMPTY;
 use steps::reader::Reader;
 
-// What a whole reading answers: nothing is read of a symbol or within a depth above the limits.
+// Why nothing is read of a symbol, or within a depth, above the limits; or what refuses the reading.
 #[derive(Clone, Copy)]
-pub enum Whole {
+pub enum Unread {
     Outside,
-    Root(u16),
     Refused(Refusal),
 }
 
-#[derive(Clone, Copy)]
-pub struct Outcome {
-    pub answer: Whole,
-    pub state: State,
+impl Unread {
+    // Its number, as callers have it.
+    pub fn number(self) -> u8
+        ensures { result ≡ unread_number self }
+    {
+        match self {
+            Unread::Outside => 1,
+            Unread::Refused(Refusal::Syntax) => 3,
+            Unread::Refused(Refusal::Deep) => 4,
+            Unread::Refused(Refusal::Full) => 5,
+        }
+    }
 }
 
-// Sets the first n cells to 0.
-fn clear(t: &mut [u32], n: usize)
-    requires { n ≤ length t.old }
-    ensures { t.new ≡ replicate n 0 ++ drop n t.old }
-{
-    let mut i = 0;
-    while i < n {
-        t[i] = 0;
-        i += 1;
-    }
+// A reading's root or refusal. Its state stands beside both: a refusal has a place and counts too.
+#[derive(Clone, Copy)]
+pub struct Outcome {
+    pub answer: Result<u16, Unread>,
+    pub state: State,
 }
 
 // A reading begins with an empty memo.
@@ -46,15 +48,11 @@ const START: State = State {
     memo: EMPTY,
 };
 
-// The most nodes, as a budget has them.
-const MOST: u16 = MOST_NODES as u16;
-
 // The nodes that a reading may count: no symbol asks for more than the most.
 fn room_of(t: &[u32]) -> u16
     ensures { result ≡ min most_nodes (nodes t.now) }
 {
-    let n = node::room(t);
-    if n < MOST_NODES { n as u16 } else { MOST }
+    MOST_NODES.min(node::room(t)) as u16
 }
 
 // Reads a symbol. A refusal leaves the nodes that were counted as zeros.
@@ -64,7 +62,7 @@ pub fn read(s: &[u8], t: &mut [u32], limit: u16) -> Outcome
 {
     let mut state = START;
     if LONGEST_SYMBOL < s.len() || DEEPEST_READING < limit {
-        let answer = Whole::Outside;
+        let answer = Err(Unread::Outside);
         return Outcome { answer, state };
     }
     let r = Reader {
@@ -73,10 +71,10 @@ pub fn read(s: &[u8], t: &mut [u32], limit: u16) -> Outcome
         room: room_of(t),
     };
     let answer = match parse(r, t, &mut state, limit) {
-        Ok(n) => Whole::Root(n),
+        Ok(n) => Ok(n),
         Err(why) => {
-            clear(t, (state.used as usize) * node::CELLS);
-            Whole::Refused(why)
+            t[..state.used as usize * node::CELLS].fill(0);
+            Err(Unread::Refused(why))
         }
     };
     Outcome { answer, state }
