@@ -9,7 +9,7 @@ ghost use Rattle.leaf_call.specs.Replies.{leaf_reply};
 
 use reply::Reply;
 
-// The leaf of this number, read at a place of the symbol.
+// The leaf of this number, read at a place of the symbol. The numbers are those that a caller in C gives.
 pub fn call_leaf(leaf: u32, s: &[u8], at: usize) -> Reply
     ensures { result ≡ leaf_reply leaf (drop at s.now) }
 {

@@ -37,6 +37,7 @@ pub fn refused(number: u32, taken: usize) -> Reply
     }
 }
 
+// Functions with names and no `From`: a count, a length and a span are all numbers, and turn into different replies.
 pub fn of_found(a: Option<u8>) -> Reply
     ensures { result ≡ of_found a }
 {

@@ -1,4 +1,5 @@
 // The bits of the crate's FuncClass.
+// Numbers and no enum: they stand in the table's cells, which C reads (docs/NODES.md).
 pub const PUBLIC: u32 = 1;
 
 pub const PROTECTED: u32 = 2;

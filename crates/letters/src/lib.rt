@@ -25,6 +25,7 @@ pub struct Class {
 // No letter stands here.
 const ABSENT: Class = Class { bits: 0, taken: 0 };
 
+// One `match` on the byte for each kind of letter, as here, is the form in which their outcomes are to be read.
 fn calling_conv(c: u8) -> Leaf
     ensures { (rest : List ℕ) → result ≡ read_calling_conv (c ∷ rest) }
 {

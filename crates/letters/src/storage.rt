@@ -1,4 +1,5 @@
 // The bits of the crate's StorageClass.
+// Numbers and no enum: they stand in the table's cells, which C reads (docs/NODES.md).
 pub const CONST: u32 = 1;
 
 pub const VOLATILE: u32 = 2;

@@ -8,6 +8,7 @@ ghost use Rattle.operators.specs.Operators.{read_operator};
 use scan::cursor::Leaf;
 
 // The operators that code asks for.
+// Numbers and no enum: they stand in the table's cells, which C reads (docs/NODES.md).
 pub const CTOR: u32 = 0;
 
 pub const DTOR: u32 = 1;
