@@ -1,13 +1,11 @@
 -- A whole reading: what its readers give is what the written grammar's own demands settle, and what it leaves is fixed. Assumes nothing.
-use Prim.Native.Nat.{ℕ, ◌*◌, ◌≤◌, ◌<◌, min}
+use Prim.Native.Nat.{ℕ, ◌*◌, ◌≤◌, min}
 use mathlib.Core.Path.{◌≡◌, refl, sym, ap, subst, ◌∙◌}
 use mathlib.Core.List.{List, ◌++◌}
-use mathlib.Core.Bool.{Bool, true, false}
+use mathlib.Core.Bool.{true}
 use native.Mathlib.Omega.{arith}
-use borrow.Author.Tests.{le-leb, lt-leb}
-use lib.Dec.{leb}
+use borrow.Author.Tests.{le-leb}
 use lib.ListN.{length, drop, replicate}
-use Rattle.scan.specs.Bytes.{pick}
 use Rattle.node.specs.Cells.{nodes}
 use Rattle.grammar.specs.Program.{found, refused, Out}
 use Rattle.grammar.specs.Table.{read_table}
@@ -20,24 +18,12 @@ use Rattle.steps.specs.declared.state.Spot.{Spot}
 use Rattle.steps.specs.declared.state.Got.{Got}
 use Rattle.steps.specs.declared.state.Answer.TheVariants as answer
 use Rattle.reader.specs.Whole.{start, whole, inside, answered, table_left}
-use Rattle.reader.specs.declared.Whole.TheVariants.{Outside, Root, Refused}
+use Rattle.std.specs.Prelude.{Ok, Err}
+use Rattle.reader.specs.declared.Unread.TheVariants.{Refused}
 use Rattle.scan.specs.Limits.{longest_symbol, Short, deepest_reading, most_nodes}
 
 inside-true : (s : List ℕ) (limit : ℕ) → Short s → limit ≤ deepest_reading → inside s limit ≡ true
 inside-true s limit short low = rw (le-leb (length s) longest_symbol short, le-leb limit deepest_reading low)
-
-pub outside-long : (s : List ℕ) (limit : ℕ) → longest_symbol < length s → inside s limit ≡ false
-outside-long s limit long = rw (lt-leb (length s) longest_symbol long)
-
-outside-at : (b c : Bool) → c ≡ false → pick b c false ≡ false
-outside-at true c e = e
-outside-at false c e = refl
-
-pub outside-deep : (s : List ℕ) (limit : ℕ) → deepest_reading < limit → inside s limit ≡ false
-outside-deep s limit deep = outside-at (leb (length s) longest_symbol) (leb limit deepest_reading) (lt-leb limit deepest_reading deep)
-
-pub told-outside : (s : List ℕ) (limit : ℕ) (t : List ℕ) {st : State} → st ≡ start → inside s limit ≡ false → (record { answer = Outside; state = st } ≡ answered s limit t) × (t ≡ table_left s limit t)
-told-outside s limit t e f = (rw (e, f), rw f)
 
 module _
     {s t t₁ names types names₁ types₁ : List ℕ} {limit room : ℕ} {st : Spot} {g : Got} (short : Short s) (low : limit ≤ deepest_reading) (first : full st (lent t names types) ≡ start) (rooms : room ≡ min most_nodes (nodes t))
@@ -50,7 +36,7 @@ module _
   pub counted-fits : g.state.used * 12 ≤ length t₁
   counted-fits = used-fits (goes plain g (lent t₁ names₁ types₁)) (whole s limit t) agrees
 
-  pub told-found : {n : ℕ} → g.answer ≡ answer.Node n → (record { answer = Root n; state = full g.state (lent t₁ names₁ types₁) } ≡ answered s limit t) × (t₁ ≡ table_left s limit t)
+  pub told-found : {n : ℕ} → g.answer ≡ answer.Node n → (record { answer = Ok n; state = full g.state (lent t₁ names₁ types₁) } ≡ answered s limit t) × (t₁ ≡ table_left s limit t)
   told-found {n} e =
       let a = agrees in
       let r : found n ≡ (whole s limit t).reply = (rw e refl) ∙ a.reply in
@@ -59,7 +45,7 @@ module _
 
   pub told-refused :
       {why : Refusal} {t₂ : List ℕ} → g.answer ≡ answer.Refused why → t₂ ≡ replicate (g.state.used * 12) 0 ++ drop (g.state.used * 12) t₁ →
-      (record { answer = Refused why; state = full g.state (lent t₁ names₁ types₁) } ≡ answered s limit t) × (t₂ ≡ table_left s limit t)
+      (record { answer = Err (Refused why); state = full g.state (lent t₁ names₁ types₁) } ≡ answered s limit t) × (t₂ ≡ table_left s limit t)
   told-refused {why} e z =
       let a = agrees in
       let r : refused why ≡ (whole s limit t).reply = (rw e refl) ∙ a.reply in

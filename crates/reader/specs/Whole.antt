@@ -1,5 +1,5 @@
 -- A whole reading: what it answers and what it leaves in the table. Assumes nothing: these are definitions.
-use Rattle.std.specs.Prelude.{ℕ, ◌*◌, List, ◌++◌, Bool, false, length, drop, replicate, leb}
+use Rattle.std.specs.Prelude.{ℕ, ◌*◌, List, ◌++◌, Bool, false, length, drop, replicate, leb, Result, Ok, Err}
 use Rattle.scan.specs.Bytes.{pick}
 use Rattle.node.specs.Cells.{nodes}
 use Rattle.grammar.specs.Program.{Reply, found, refused, Out}
@@ -8,8 +8,8 @@ use Rattle.grammar.specs.Table.{cells_of, same_nodes}
 use Rattle.grammar.specs.Grammar.{Parse, empty_memo, body}
 use Rattle.grammar.specs.declared.State.{State}
 use Rattle.steps.specs.declared.state.Spot.{Spot}
-use Rattle.reader.specs.declared.Whole.{Whole}
-use Rattle.reader.specs.declared.Whole.TheVariants.{Outside, Root, Refused}
+use Rattle.reader.specs.declared.Unread.{Unread}
+use Rattle.reader.specs.declared.Unread.TheVariants.{Outside, Refused}
 use Rattle.reader.specs.declared.Outcome.{Outcome}
 use Rattle.scan.specs.Limits.{longest_symbol, deepest_reading}
 
@@ -28,15 +28,15 @@ whole s limit t = settle limit (nodes t) (asks body (same_nodes s) s Parse start
 abbrev pub inside : List ℕ → ℕ → Bool
 inside s limit = pick (leb (length s) longest_symbol) (leb limit deepest_reading) false
 
-abbrev pub told : Reply ℕ → Whole
-told (found n) = Root n
-told (refused why) = Refused why
+abbrev pub told : Reply ℕ → Result ℕ Unread
+told (found n) = Ok n
+told (refused why) = Err (Refused why)
 
 abbrev pub outcome : Out ℕ (List Node) → Outcome
 outcome o = record { answer = told o.reply; state = o.state }
 
 abbrev pub answered : List ℕ → ℕ → List ℕ → Outcome
-answered s limit t = pick (inside s limit) (outcome (whole s limit t)) (record { answer = Outside; state = start })
+answered s limit t = pick (inside s limit) (outcome (whole s limit t)) (record { answer = Err Outside; state = start })
 
 -- the nodes, or zeros where the reading is refused; the cells behind them are as they were
 abbrev pub cells_left : Reply ℕ → List Node → List ℕ

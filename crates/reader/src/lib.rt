@@ -1,7 +1,7 @@
 // The whole reading of a symbol into a lent node table: what it answers, and what it leaves.
 #![tactic(auto)]
 
-ghost use Rattle.std.specs.Prelude.{◌≡◌, [], ◌++◌, ◌≤◌, min, length, drop, replicate};
+ghost use Rattle.std.specs.Prelude.{◌≡◌, [], min};
 ghost use Rattle.node.specs.Cells.{nodes};
 ghost use Rattle.steps.specs.Does.{lent, full};
 ghost use Rattle.reader.specs.Whole.{begun, answered, table_left};
@@ -12,30 +12,18 @@ use grammar::{ENTRIES, Entries, Memo, Refusal, State};
 use scan::limits::{DEEPEST_READING, LONGEST_SYMBOL, MOST_NODES};
 use steps::state::{Answer, Limits, Spot};
 
-// What a whole reading answers: nothing is read of a symbol or within a depth above the limits.
+// Why nothing is read of a symbol, or within a depth, above the limits; or what refuses the reading.
 #[derive(Clone, Copy)]
-pub enum Whole {
+pub enum Unread {
     Outside,
-    Root(u16),
     Refused(Refusal),
 }
 
+// A reading's root or refusal. Its state stands beside both: a refusal has a place and counts too.
 #[derive(Clone, Copy)]
 pub struct Outcome {
-    pub answer: Whole,
+    pub answer: Result<u16, Unread>,
     pub state: State,
-}
-
-// Sets the first n cells to 0.
-fn clear(t: &mut [u32], n: usize)
-    requires { n ≤ length t.old }
-    ensures { t.new ≡ replicate n 0 ++ drop n t.old }
-{
-    let mut i = 0;
-    while i < n {
-        t[i] = 0;
-        i += 1;
-    }
 }
 
 fn begin() -> Spot
@@ -68,15 +56,11 @@ fn state_of(st: Spot, names: Entries, types: Entries) -> State
     }
 }
 
-// The most nodes, as a budget has them.
-const MOST: u16 = MOST_NODES as u16;
-
 // The nodes that a reading may count: no symbol asks for more than the most.
 fn room_of(t: &[u32]) -> u16
     ensures { result ≡ min most_nodes (nodes t.now) }
 {
-    let n = node::room(t);
-    if n < MOST_NODES { n as u16 } else { MOST }
+    MOST_NODES.min(node::room(t)) as u16
 }
 
 // Reads a symbol. A refusal leaves the nodes that were counted as zeros.
@@ -87,15 +71,9 @@ pub fn read(s: &[u8], t: &mut [u32], limit: u16) -> Outcome
     let first = begin();
     let mut names = [0u16; ENTRIES];
     let mut types = [0u16; ENTRIES];
-    if LONGEST_SYMBOL < s.len() {
+    if LONGEST_SYMBOL < s.len() || DEEPEST_READING < limit {
         return Outcome {
-            answer: Whole::Outside,
-            state: state_of(first, names, types),
-        };
-    }
-    if DEEPEST_READING < limit {
-        return Outcome {
-            answer: Whole::Outside,
+            answer: Err(Unread::Outside),
             state: state_of(first, names, types),
         };
     }
@@ -104,19 +82,13 @@ pub fn read(s: &[u8], t: &mut [u32], limit: u16) -> Outcome
         room: room_of(t),
     };
     let g = parse(s, t, &mut names, &mut types, first, lim, limit);
-    let a = g.answer;
     let end = state_of(g.state, names, types);
-    match a {
-        Answer::Node(n) => Outcome {
-            answer: Whole::Root(n),
-            state: end,
-        },
+    let answer = match g.answer {
+        Answer::Node(n) => Ok(n),
         Answer::Refused(why) => {
-            clear(t, (end.used as usize) * node::CELLS);
-            Outcome {
-                answer: Whole::Refused(why),
-                state: end,
-            }
+            t[..end.used as usize * node::CELLS].fill(0);
+            Err(Unread::Refused(why))
         }
-    }
+    };
+    Outcome { answer, state: end }
 }
