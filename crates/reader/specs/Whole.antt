@@ -7,11 +7,23 @@ use Rattle.grammar.specs.Counts.{Node, asks, settle}
 use Rattle.grammar.specs.Table.{cells_of, same_nodes}
 use Rattle.grammar.specs.Grammar.{Parse, empty_memo, body}
 use Rattle.grammar.specs.declared.State.{State}
+use Rattle.grammar.specs.declared.Refusal.{Refusal}
+use Rattle.grammar.specs.declared.Refusal.TheVariants.{Syntax, Deep, Full}
 use Rattle.steps.specs.declared.state.Spot.{Spot}
 use Rattle.reader.specs.declared.Unread.{Unread}
 use Rattle.reader.specs.declared.Unread.TheVariants.{Outside, Refused}
 use Rattle.reader.specs.declared.Outcome.{Outcome}
 use Rattle.scan.specs.Limits.{longest_symbol, deepest_reading}
+
+-- the number of a refusal; 1 where nothing is read
+abbrev pub refusal_number : Refusal → ℕ
+refusal_number Syntax = 3
+refusal_number Deep = 4
+refusal_number Full = 5
+
+abbrev pub unread_number : Unread → ℕ
+unread_number Outside = 1
+unread_number (Refused why) = refusal_number why
 
 -- a reading begins with an empty memo
 abbrev pub begun : Spot

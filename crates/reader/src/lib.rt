@@ -4,7 +4,7 @@
 ghost use Rattle.std.specs.Prelude.{◌≡◌, [], min};
 ghost use Rattle.node.specs.Cells.{nodes};
 ghost use Rattle.steps.specs.Does.{lent, full};
-ghost use Rattle.reader.specs.Whole.{begun, answered, table_left};
+ghost use Rattle.reader.specs.Whole.{unread_number, begun, answered, table_left};
 ghost use Rattle.scan.specs.Limits.{most_nodes};
 
 use cycle::parse;
@@ -17,6 +17,20 @@ use steps::state::{Answer, Limits, Spot};
 pub enum Unread {
     Outside,
     Refused(Refusal),
+}
+
+impl Unread {
+    // Its number, as callers have it.
+    pub fn number(self) -> u8
+        ensures { result ≡ unread_number self }
+    {
+        match self {
+            Unread::Outside => 1,
+            Unread::Refused(Refusal::Syntax) => 3,
+            Unread::Refused(Refusal::Deep) => 4,
+            Unread::Refused(Refusal::Full) => 5,
+        }
+    }
 }
 
 // A reading's root or refusal. Its state stands beside both: a refusal has a place and counts too.
