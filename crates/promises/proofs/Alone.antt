@@ -6,7 +6,7 @@ use mathlib.Core.List.{List, [], append-nil}
 use native.Mathlib.Omega.{arith}
 use borrow.Author.Tests.{le-leb, ne_eqb}
 use lib.ListN.{length, take}
-use Rattle.std.specs.Prelude.{Option, None, Some, Result, Ok, Err}
+use Rattle.std.specs.Prelude.{Ok}
 use Rattle.node.specs.Cells.{nodes, cell_of, height_at}
 use Rattle.grammar.specs.Counts.{Node, height_of}
 use Rattle.grammar.specs.Table.{cells_of}
@@ -16,8 +16,7 @@ use Rattle.grammar.proofs.Rows.{cell-kind, height-cells}
 use Rattle.text.specs.Emit.{cut}
 use Rattle.writer.specs.Written.{text_of}
 use Rattle.farthingmoss.specs.declared.Counts.{Counts}
-use Rattle.farthingmoss.specs.declared.Refused.TheVariants.{Answered}
-use Rattle.farthingmoss.specs.Call.{Answer, demangled, table_after, text_after, rooted, root_height, root_answer, root_text, written_alone, text_alone}
+use Rattle.farthingmoss.specs.Call.{demangled, table_after, text_after, rooted, root_height, root_answer, root_text, written_alone, text_alone}
 use Rattle.promises.specs.Promises.{own, Accepted, AloneAgrees}
 use Rattle.promises.proofs.Reading.{cells-length, within-formed, within-writes}
 use Rattle.promises.proofs.Grammar.{accepted, leaves, written-whole}

@@ -10,7 +10,7 @@ use borrow.Author.Tests.{le-leb, lt-leb, leb-true, leb-false}
 use lib.Dec.{leb}
 use lib.ListN.{length, take, drop}
 use lib.Seq.{take_at}
-use Rattle.std.specs.Prelude.{Option, None, Some, Result, Ok, Err}
+use Rattle.std.specs.Prelude.{None, Some, Ok, Err}
 use Rattle.scan.specs.Bytes.{pick}
 use Rattle.node.specs.Cells.{nodes}
 use Rattle.text.specs.Emit.{cut}
@@ -18,8 +18,7 @@ use Rattle.text.proofs.Cut.{cut_fits, cut-over, take-cut-le}
 use Rattle.writer.specs.Written.{written}
 use Rattle.gates.specs.declared.Closed.TheVariants.{Call, Symbol, High}
 use Rattle.farthingmoss.specs.declared.Counts.{Counts}
-use Rattle.farthingmoss.specs.declared.Refused.{Refused}
-use Rattle.farthingmoss.specs.declared.Refused.TheVariants.{NoSymbol, NotAscii, NoDerivation, TooDeep, NoNode, NoRoom, BadCall, BadTable}
+use Rattle.farthingmoss.specs.declared.Refused.TheVariants.{TooDeep, NoRoom, BadTable}
 use Rattle.gates.specs.Gates.{Gate, gate}
 use Rattle.farthingmoss.specs.Call.{Answer, through, kept, fitted, rooted, root_height, root_answer, root_text, written_alone, text_alone}
 use Rattle.gates.proofs.Opens.{open-low}
@@ -52,15 +51,7 @@ module _ {f depth : ℕ} {s t : List ℕ} (w : Rooted f depth s t) where
 
 -- no other call says so
 abbrev tries : Answer → Bool
-tries (Ok c) = true
-tries (Err NoSymbol) = false
-tries (Err (NotAscii at)) = false
-tries (Err (NoDerivation at)) = false
-tries (Err (TooDeep at)) = true
-tries (Err (NoNode at)) = false
-tries (Err (NoRoom c)) = true
-tries (Err BadCall) = false
-tries (Err BadTable) = false
+tries a = says (0 ∷ 4 ∷ 6 ∷ []) a
 
 through-rooted : (g : Gate) (b : Bool) (a : Answer) → tries (through g (pick b a (Err BadTable))) ≡ true → (g ≡ Ok tt) × (b ≡ true)
 through-rooted (Ok tt) true a e = (refl, refl)

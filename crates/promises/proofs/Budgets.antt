@@ -6,7 +6,7 @@ use mathlib.Core.List.{List}
 use native.Mathlib.Omega.{arith}
 use lib.ListN.{length, take}
 use lib.Seq.{take_at}
-use Rattle.std.specs.Prelude.{Option, None, Some, Result, Ok, Err}
+use Rattle.std.specs.Prelude.{Ok, Err}
 use Rattle.node.specs.Cells.{nodes}
 use Rattle.grammar.specs.Program.{refused}
 use Rattle.grammar.specs.declared.Refusal.{Refusal}
@@ -14,7 +14,7 @@ use Rattle.reader.specs.Whole.{whole}
 use Rattle.text.proofs.Cut.{take-cut-le}
 use Rattle.farthingmoss.specs.declared.Counts.{Counts}
 use Rattle.farthingmoss.specs.declared.Refused.TheVariants.{NoDerivation, TooDeep, NoNode, NoRoom}
-use Rattle.farthingmoss.specs.Call.{Answer, refusal, demangled, table_after, text_after}
+use Rattle.farthingmoss.specs.Call.{refusal, demangled, table_after, text_after}
 use Rattle.gates.proofs.Opens.{open-low}
 use Rattle.promises.specs.Promises.{own, own_text, counts_in, Within, Accepted, MoreAnswered, MoreRefused, CutBegins, Suffices, TooShallow, TooFew, TooSmall}
 use Rattle.promises.proofs.Reading.{open-again, open-answers, settles-shallow, settles-cramped, within-writes}

@@ -4,16 +4,15 @@ use Prim.Native.Nat.{ℕ}
 use mathlib.Core.Bool.{Bool, true, false}
 use mathlib.Core.Path.{◌≡◌, refl, sym, ap, ◌∙◌}
 use mathlib.Core.List.{List}
-use Rattle.std.specs.Prelude.{Option, None, Some, Result, Ok, Err}
+use Rattle.std.specs.Prelude.{Ok, Err}
 use Rattle.node.specs.Cells.{nodes}
 use Rattle.grammar.specs.Program.{Reply, refused, Out}
 use Rattle.grammar.specs.Counts.{Node, Limit, depth, room, name, bare, fits}
 use Rattle.grammar.proofs.Demands.{passed, settled-fits}
 use Rattle.grammar.proofs.First.{settled-first, first-over}
 use Rattle.reader.specs.Whole.{whole}
-use Rattle.gates.specs.declared.Closed.TheVariants.{Call, Symbol, High}
-use Rattle.gates.specs.Gates.{Gate, gate}
-use Rattle.farthingmoss.specs.Call.{Answer, refusal, demangled}
+use Rattle.gates.specs.Gates.{gate}
+use Rattle.farthingmoss.specs.Call.{refusal, demangled}
 use Rattle.gates.proofs.Opens.{open-low}
 use Rattle.promises.specs.Promises.{own, Blamed, Blames}
 use Rattle.promises.proofs.Reading.{own-low, said, open-answers, is_read, demangled-open, refusal-read}

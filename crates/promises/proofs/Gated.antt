@@ -1,16 +1,16 @@
 -- What refuses a call before anything is read, and what refuses a lent table behind that: 7, 1, 2 and 8, exactly. Assumes nothing.
-use Prim.Native.Nat.{ℕ, suc, zero, ◌<◌}
+use Prim.Native.Nat.{ℕ}
 use mathlib.Core.Bool.{Bool, true, false}
-use mathlib.Core.Path.{◌≡◌, refl, sym, ap, subst, ◌∙◌}
+use mathlib.Core.Path.{◌≡◌, refl, sym, ap, ◌∙◌}
 use mathlib.Core.List.{List, [], ◌∷◌}
 use mathlib.Core.Logic.{◌↔◌, inl, inr, ⊎_elim}
 use native.Mathlib.Omega.{arith}
-use borrow.Author.Tests.{leb-true, leb-false, ltb-true, ltb-false, eqb-true, eqb-false, le-leb, lt-leb, lt-ltb}
+use borrow.Author.Tests.{leb-true, leb-false, eqb-true, eqb-false, le-leb, lt-leb, lt-ltb}
 use lib.Dec.{leb, ltb, eqb}
-use lib.ListN.{length, get_or}
+use lib.ListN.{length}
 use Rattle.std.proofs.lemmas.List.Quantifiers.{position-Some}
 use Rattle.std.proofs.lemmas.List.Sums.{position_or_len_is}
-use Rattle.std.specs.Prelude.{cond, Option, None, Some, Result, Ok, Err}
+use Rattle.std.specs.Prelude.{cond, Option, None, Some, Ok, Err}
 use Rattle.scan.specs.Bytes.{pick}
 use Rattle.grammar.specs.declared.Refusal.{Refusal}
 use Rattle.grammar.specs.declared.Refusal.TheVariants.{Syntax, Deep, Full}
@@ -20,10 +20,9 @@ use Rattle.writer.specs.Written.{written}
 use Rattle.gates.specs.declared.Closed.TheVariants.{Call, Symbol, High}
 use Rattle.gates.specs.Gates.{Gate, low, known_flags, high_at, symbol_gate, gate}
 use Rattle.farthingmoss.specs.declared.Counts.{Counts}
-use Rattle.farthingmoss.specs.declared.Refused.{Refused}
-use Rattle.farthingmoss.specs.declared.Refused.TheVariants.{NoSymbol, NotAscii, NoDerivation, TooDeep, NoNode, NoRoom, BadCall, BadTable}
+use Rattle.farthingmoss.specs.declared.Refused.TheVariants.{NotAscii, TooDeep, BadTable}
 use Rattle.farthingmoss.specs.Call.{Answer, through, fitted, refusal, demangled, rooted, root_height, root_answer, written_alone, name_ok, name_answer}
-use Rattle.promises.specs.Promises.{root_words, BadBudget, BadLength, FirstHigh, Gated, ReadGated, WriteGated, NameGated, WriteTables, NameTables, NameAccepts}
+use Rattle.promises.specs.Promises.{says, root_words, BadBudget, BadLength, FirstHigh, Gated, ReadGated, WriteGated, NameGated, WriteTables, NameTables, NameAccepts}
 use Rattle.promises.proofs.Reading.{said-any, open-answers}
 use Rattle.promises.proofs.Grammar.{impossible}
 use Rattle.scan.specs.Limits.{longest_symbol, deepest_reading}
@@ -98,15 +97,7 @@ gate-stands f depth s = gate-by f depth s (leb depth deepest_reading) (known_fla
 
 -- an answer that no gate gives
 abbrev late : Answer → Bool
-late (Ok c) = true
-late (Err NoSymbol) = false
-late (Err (NotAscii at)) = false
-late (Err (NoDerivation at)) = true
-late (Err (TooDeep at)) = true
-late (Err (NoNode at)) = true
-late (Err (NoRoom c)) = true
-late (Err BadCall) = false
-late (Err BadTable) = true
+late a = says (0 ∷ 3 ∷ 4 ∷ 5 ∷ 6 ∷ 8 ∷ []) a
 
 not_late : {A : Type 0} {a b : Answer} → late a ≡ true → late b ≡ false → a ≡ b → A
 not_late l k e = impossible (let z : ◌≡◌ {A = Bool} true false = sym l ∙ ap late e ∙ k in cc)

@@ -12,7 +12,7 @@ use borrow.Author.Tests.{le-leb, lt-leb, leb-true, leb-false}
 use lib.Dec.{leb}
 use lib.ListN.{length, take, drop}
 use lib.Seq.{take_at}
-use Rattle.std.specs.Prelude.{Option, None, Some, Result, Ok, Err}
+use Rattle.std.specs.Prelude.{None, Some, Ok, Err}
 use Rattle.scan.specs.Bytes.{pick}
 use Rattle.grammar.specs.Program.{Reply, found, refused}
 use Rattle.grammar.specs.Counts.{Node}
@@ -23,7 +23,6 @@ use Rattle.grammar.specs.declared.Refusal.TheVariants.{Syntax, Deep, Full}
 use Rattle.text.proofs.Cut.{cut_fits, cut-over}
 use Rattle.writer.specs.Written.{text_of, written}
 use Rattle.farthingmoss.specs.declared.Counts.{Counts}
-use Rattle.farthingmoss.specs.declared.Refused.{Refused}
 use Rattle.farthingmoss.specs.declared.Refused.TheVariants.{NoDerivation, NoRoom}
 use Rattle.farthingmoss.specs.Call.{Answer, fitted, refusal, demangled, table_after, text_after}
 use Rattle.promises.specs.Promises.{own, own_text, own_counts, counts_in, Within, Accepted, Spilled, Rejected, Accepts, Rejects, Spills}

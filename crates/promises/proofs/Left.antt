@@ -5,7 +5,7 @@ use mathlib.Core.Path.{◌≡◌, refl, sym, ap, ◌∙◌}
 use mathlib.Core.List.{List, [], ◌∷◌, ◌++◌}
 use native.Mathlib.Omega.{arith}
 use lib.ListN.{length, drop}
-use Rattle.std.specs.Prelude.{Option, None, Some, Result, Ok, Err}
+use Rattle.std.specs.Prelude.{Ok, Err}
 use Rattle.node.specs.Cells.{nodes}
 use Rattle.grammar.specs.Program.{Reply, Out}
 use Rattle.grammar.specs.Counts.{Node, bare}
@@ -15,9 +15,7 @@ use Rattle.grammar.specs.declared.State.{State}
 use Rattle.grammar.proofs.First.{settled-first}
 use Rattle.grammar.proofs.Honest.{HonestLog, honest-at, reads-honest}
 use Rattle.reader.specs.Whole.{start, whole, cells_left}
-use Rattle.gates.specs.declared.Closed.TheVariants.{Call, Symbol, High}
 use Rattle.farthingmoss.specs.declared.Counts.{Counts}
-use Rattle.farthingmoss.specs.declared.Refused.{Refused}
 use Rattle.farthingmoss.specs.declared.Refused.TheVariants.{NoSymbol, NotAscii, NoDerivation, TooDeep, NoNode, NoRoom, BadCall, BadTable}
 use Rattle.gates.specs.Gates.{Gate, gate}
 use Rattle.farthingmoss.specs.Call.{Answer, demangled, table_after, text_after}

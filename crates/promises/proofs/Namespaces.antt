@@ -8,7 +8,7 @@ use native.Mathlib.Nat.{add-zero}
 use borrow.Author.Tests.{ne_eqb}
 use lib.ListN.{length, drop, get_or}
 use lib.Seq.{drop-drop}
-use Rattle.std.specs.Prelude.{Option, None, Some, Result, Ok, Err}
+use Rattle.std.specs.Prelude.{Ok, Err}
 use Rattle.scan.specs.Bytes.{pick, bytes, starts}
 use Rattle.scan.specs.Name.{read_hex_digits}
 use Rattle.node.specs.Cells.{cell_of, KIND, Q}
@@ -25,7 +25,6 @@ use Rattle.grammar.proofs.Memos.{Steady}
 use Rattle.grammar.proofs.Calm.{moved}
 use Rattle.forms.specs.declared.begins.NameForm.TheVariants as name
 use Rattle.grammar.proofs.Funded.{true-false}
-use Rattle.farthingmoss.specs.declared.Refused.{Refused}
 use Rattle.farthingmoss.specs.declared.Refused.TheVariants.{NoSymbol, NotAscii, NoDerivation, TooDeep, NoNode, NoRoom, BadCall, BadTable}
 use Rattle.farthingmoss.specs.Call.{Answer, demangled, table_after}
 use Rattle.promises.specs.Promises.{own, own_nodes, Within, says, Namespaces, NamespacesStored, StoredHaveIds, SameId, IdsApart, IdsHaveDigits}

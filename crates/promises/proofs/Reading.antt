@@ -12,7 +12,7 @@ use native.Mathlib.Omega.{arith}
 use borrow.Author.Tests.{leb-true, le-leb, lt-ltb, ltb-true}
 use lib.Dec.{leb, ltb, eqb}
 use lib.ListN.{length, drop, length-append, get_or-append}
-use Rattle.std.specs.Prelude.{Option, None, Some, Result, Ok, Err}
+use Rattle.std.specs.Prelude.{None, Some, Ok, Err}
 use Rattle.scan.specs.Bytes.{pick}
 use Rattle.node.specs.Cells.{nodes, cell_of}
 use Rattle.meaning.specs.Tree.{Tree}
@@ -33,12 +33,11 @@ use Rattle.text.specs.Emit.{cut}
 use Rattle.writer.specs.Written.{text_of, written}
 use Rattle.gates.specs.declared.Closed.TheVariants.{Call, Symbol, High}
 use Rattle.farthingmoss.specs.declared.Counts.{Counts}
-use Rattle.farthingmoss.specs.declared.Refused.{Refused}
 use Rattle.farthingmoss.specs.declared.Refused.TheVariants.{NoSymbol, NotAscii, NoDerivation, TooDeep, NoNode, NoRoom, BadCall, BadTable}
 use Rattle.gates.specs.Gates.{Gate, known_flags, symbol_gate, gate}
 use Rattle.farthingmoss.specs.Call.{Answer, through, fitted, refusal, answer_of, text_left, demangled, table_after, text_after}
 use Rattle.gates.proofs.Opens.{open-low}
-use Rattle.promises.specs.Promises.{own, Within}
+use Rattle.promises.specs.Promises.{says, own, Within}
 use Rattle.scan.specs.Limits.{longest_symbol, Short, deepest_reading}
 
 -- an open gate: the symbol is short, and the gate is open for every other depth up to the deepest reading
@@ -186,15 +185,7 @@ module _ {f depth : ℕ} {s t : List ℕ} (w : Within f depth s t) where
 
 -- a call that reads the symbol answers 0, 3, 4, 5 or 6, and no other call does
 abbrev pub is_read : Answer → Bool
-is_read (Ok c) = true
-is_read (Err NoSymbol) = false
-is_read (Err (NotAscii at)) = false
-is_read (Err (NoDerivation at)) = true
-is_read (Err (TooDeep at)) = true
-is_read (Err (NoNode at)) = true
-is_read (Err (NoRoom c)) = true
-is_read (Err BadCall) = false
-is_read (Err BadTable) = false
+is_read a = says (0 ∷ 3 ∷ 4 ∷ 5 ∷ 6 ∷ []) a
 
 through-open : (g : Gate) (a : Answer) → is_read (through g a) ≡ true → g ≡ Ok tt
 through-open (Ok tt) a e = refl
@@ -213,15 +204,7 @@ refusal-read Full at = refl
 
 -- one that is not refused for depth or nodes
 abbrev pub settles_all : Answer → Bool
-settles_all (Ok c) = true
-settles_all (Err NoSymbol) = false
-settles_all (Err (NotAscii at)) = false
-settles_all (Err (NoDerivation at)) = true
-settles_all (Err (TooDeep at)) = false
-settles_all (Err (NoNode at)) = false
-settles_all (Err (NoRoom c)) = true
-settles_all (Err BadCall) = false
-settles_all (Err BadTable) = false
+settles_all a = says (0 ∷ 3 ∷ 6 ∷ []) a
 
 settles-read : (a : Answer) → settles_all a ≡ true → is_read a ≡ true
 settles-read (Ok c) e = refl

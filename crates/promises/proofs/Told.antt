@@ -4,9 +4,9 @@ use mathlib.Core.Bool.{Bool, true, false}
 use mathlib.Core.Path.{◌≡◌, refl, ap, ◌∙◌}
 use mathlib.Core.List.{List, [], ◌∷◌}
 use native.Mathlib.Omega.{arith}
-use lib.Dec.{leb, ltb, eqb}
+use lib.Dec.{leb, eqb}
 use lib.ListN.{length}
-use Rattle.std.specs.Prelude.{Option, None, Some, Result, Ok, Err}
+use Rattle.std.specs.Prelude.{Option, None, Some, Ok, Err}
 use Rattle.scan.specs.Bytes.{pick}
 use Rattle.grammar.specs.Program.{Reply}
 use Rattle.grammar.specs.Counts.{Node}
@@ -16,7 +16,6 @@ use Rattle.grammar.specs.declared.Refusal.TheVariants.{Syntax, Deep, Full}
 use Rattle.reader.specs.Whole.{whole}
 use Rattle.writer.specs.Written.{written}
 use Rattle.gates.specs.declared.Closed.TheVariants.{Call, Symbol, High}
-use Rattle.farthingmoss.specs.declared.Refused.{Refused}
 use Rattle.farthingmoss.specs.declared.Refused.TheVariants.{NoSymbol, NotAscii, NoDerivation, TooDeep, NoNode, NoRoom, BadCall, BadTable}
 use Rattle.gates.specs.Gates.{Gate, low, gate, high_at, symbol_gate}
 use Rattle.farthingmoss.specs.Call.{Answer, through, fitted, refusal, filled, demangled, rooted, root_height, root_answer, written_alone, name_ok, name_answer}
