@@ -15,9 +15,8 @@ use Rattle.scan.specs.Bytes.{pick}
 use Rattle.node.specs.Cells.{nodes}
 use Rattle.text.specs.Decimal.{digits}
 use Rattle.farthingmoss.specs.declared.Counts.{Counts}
-use Rattle.farthingmoss.specs.declared.Answer.{Answer}
-use Rattle.farthingmoss.specs.declared.Answer.TheVariants.{Answered, NoSymbol, NotAscii, NoDerivation, TooDeep, NoNode, NoRoom, BadCall, BadTable}
-use Rattle.farthingmoss.specs.Call.{demangled, text_after}
+use Rattle.std.specs.Prelude.{Ok, Err}
+use Rattle.farthingmoss.specs.Call.{Answer, demangled, text_after}
 use Rattle.gates.specs.Gates.{known_flags, symbol_gate, gate}
 use Rattle.promises.specs.Promises.{own_text}
 use Rattle.promises.proofs.Kept.{kept}
@@ -30,29 +29,22 @@ unfolding line_of demangled gate known_flags symbol_gate
 long-line s h = rw (ne_eqb (length s) 0 (λ e. omega arith), lt-leb (length s) longest_symbol h)
 
 -- an answered text fits its room
-pub text-fits : (f depth : ℕ) (s t : List ℕ) (room : ℕ) (c : Counts) → demangled f depth s t room ≡ Answered c → c.text ≤ room
+pub text-fits : (f depth : ℕ) (s t : List ℕ) (room : ℕ) (c : Counts) → demangled f depth s t room ≡ Ok c → c.text ≤ room
 text-fits f depth s t room c e =
     let a = (kept.accepts f depth s t room c).0 e in
     let q : c.text ≡ length (own_text f s a.root) = ap (λ (x : Counts). x.text) a.counts in
     omega (arith, a.fits)
 
 module _ (s t b : List ℕ) (n : nodes t ≡ nodes table) (m : length b ≡ line_text) where
-  same_text : (c : Counts) → demangled 0 deepest_reading s table line_text ≡ Answered c → take c.text (text_after 0 deepest_reading s t b) ≡ take c.text (text_after 0 deepest_reading s table text)
+  same_text : (c : Counts) → demangled 0 deepest_reading s table line_text ≡ Ok c → take c.text (text_after 0 deepest_reading s t b) ≡ take c.text (text_after 0 deepest_reading s table text)
   unfolding text
   same_text c e =
       let room : length text ≡ line_text = length-replicate {A = ℕ} line_text 0 in
       sym ((kept.old-contents 0 deepest_reading s table t (sym n)).1 text b c (room ∙ sym m) (ap (demangled 0 deepest_reading s table) room ∙ e))
 
   by_answer : (a : Answer) → demangled 0 deepest_reading s table line_text ≡ a → answer_line a (text_after 0 deepest_reading s t b) ≡ answer_line a (text_after 0 deepest_reading s table text)
-  by_answer (Answered c) e = ap ok_line (same_text c e)
-  by_answer NoSymbol e = refl
-  by_answer (NotAscii at) e = refl
-  by_answer (NoDerivation at) e = refl
-  by_answer (TooDeep at) e = refl
-  by_answer (NoNode at) e = refl
-  by_answer (NoRoom c) e = refl
-  by_answer BadCall e = refl
-  by_answer BadTable e = refl
+  by_answer (Ok c) e = ap ok_line (same_text c e)
+  by_answer (Err why) e = refl
 
   -- old contents of table and text do not affect it
   pub same_line : answer_line (demangled 0 deepest_reading s t (length b)) (text_after 0 deepest_reading s t b) ≡ line_of s
@@ -99,12 +91,5 @@ line-short s = by (demangled 0 deepest_reading s table line_text) refl
     b = text_after 0 deepest_reading s table text
 
     by : (a : Answer) → demangled 0 deepest_reading s table line_text ≡ a → length (answer_line a b) ≤ longest_answer
-    by (Answered c) e = omega (arith, ok-short (take c.text b), take_short c.text b, text-fits 0 deepest_reading s table line_text c e)
-    by NoSymbol e = no_short 1 0
-    by (NotAscii at) e = no_short 2 at
-    by (NoDerivation at) e = no_short 3 at
-    by (TooDeep at) e = no_short 4 at
-    by (NoNode at) e = no_short 5 at
-    by (NoRoom c) e = no_short 6 c.offset
-    by BadCall e = no_short 7 0
-    by BadTable e = no_short 8 0
+    by (Ok c) e = omega (arith, ok-short (take c.text b), take_short c.text b, text-fits 0 deepest_reading s table line_text c e)
+    by (Err why) e = no_short _ _

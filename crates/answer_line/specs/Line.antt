@@ -1,9 +1,8 @@
 -- The line that answers a line. Assumes nothing: these are definitions.
-use Rattle.std.specs.Prelude.{ℕ, ◌+◌, ◌*◌, List, [], ◌++◌, eqb, take, get_or, replicate}
-use Rattle.scan.specs.Bytes.{pick, bytes}
+use Rattle.std.specs.Prelude.{ℕ, ◌+◌, ◌*◌, List, [], ◌++◌, take, get_or, replicate, Ok, Err}
+use Rattle.scan.specs.Bytes.{bytes}
 use Rattle.text.specs.Decimal.{digits}
-use Rattle.farthingmoss.specs.declared.Answer.{Answer}
-use Rattle.farthingmoss.specs.Call.{report_of, demangled, text_after}
+use Rattle.farthingmoss.specs.Call.{Answer, report_of, demangled, text_after}
 use Rattle.scan.specs.Limits.{deepest_reading}
 
 -- a usize
@@ -16,9 +15,10 @@ ok_line t = bytes "ok\t" ++ (t ++ bytes "\n")
 unfoldable pub no_line : ℕ → ℕ → List ℕ
 no_line number offset = bytes "no\t" ++ (decimal number ++ (bytes "\t" ++ (decimal offset ++ bytes "\n")))
 
--- the line of an answer, by its number, its offset and the length of its text, of which b has the bytes
+-- the line of an answer: of a text that b has the bytes of, or of a refusal's number and offset
 abbrev pub answer_line : Answer → List ℕ → List ℕ
-answer_line a b = pick (eqb (get_or (report_of a) 0 0) 0) (ok_line (take (get_or (report_of a) 4 0) b)) (no_line (get_or (report_of a) 0 0) (get_or (report_of a) 1 0))
+answer_line (Ok c) b = ok_line (take c.text b)
+answer_line (Err e) b = no_line (get_or (report_of (Err e)) 0 0) (get_or (report_of (Err e)) 1 0)
 
 -- the program's table of 1,024 nodes, its room for a text, and the longest answer: `ok`, tab, text, newline
 abbrev pub line_cells : ℕ

@@ -1,13 +1,12 @@
 // The line that answers a line of the program's input.
 #![tactic(auto)]
 
-ghost use Rattle.std.specs.Prelude.{◌≡◌, ◌≤◌, length};
+ghost use Rattle.std.specs.Prelude.{◌≡◌, ◌≤◌, Ok, length};
 ghost use Rattle.text.specs.Emit.{Wrote, lit};
 ghost use Rattle.farthingmoss.specs.declared.Counts.{Counts};
-ghost use Rattle.farthingmoss.specs.declared.Answer.TheVariants.{Answered};
 ghost use Rattle.answer_line.specs.Line.{decimal, ok_line, no_line, answer_line, line_of, line_cells, line_text};
 
-use farthingmoss::{Answer, demangle};
+use farthingmoss::{Counts, Refused, demangle};
 use scan::limits::DEEPEST_READING;
 use text::buffer::{put, put_bytes};
 use text::decimal::fill_back;
@@ -49,23 +48,13 @@ fn put_refusal(out: &mut [u8], o: usize, number: usize, offset: usize) -> usize
     put(out, o4, b'\n')
 }
 
-fn put_answer(out: &mut [u8], o: usize, a: Answer, text: &[u8]) -> usize
-    requires { (c : Counts) → a ≡ Answered c → c.text ≤ length text.now }
+fn put_answer(out: &mut [u8], o: usize, a: Result<Counts, Refused>, text: &[u8]) -> usize
+    requires { (c : Counts) → a ≡ Ok c → c.text ≤ length text.now }
     ensures { Wrote (lit (answer_line a text.now)) out.old o out.new result }
 {
     match a {
-        Answer::Answered(c) => {
-            let n = c.text;
-            put_text(out, o, &text[..n])
-        }
-        Answer::NoSymbol => put_refusal(out, o, 1, 0),
-        Answer::NotAscii(at) => put_refusal(out, o, 2, at),
-        Answer::NoDerivation(at) => put_refusal(out, o, 3, at),
-        Answer::TooDeep(at) => put_refusal(out, o, 4, at),
-        Answer::NoNode(at) => put_refusal(out, o, 5, at),
-        Answer::NoRoom(c) => put_refusal(out, o, 6, c.offset),
-        Answer::BadCall => put_refusal(out, o, 7, 0),
-        Answer::BadTable => put_refusal(out, o, 8, 0),
+        Ok(c) => put_text(out, o, &text[..c.text]),
+        Err(e) => put_refusal(out, o, e.number() as usize, e.counts().offset),
     }
 }
 

@@ -1,65 +1,28 @@
 // The calls as programs in C and Rust have them: the crate farthingmoss_c exports each under its name here.
 // A report is number, offset, depth, nodes and text length.
 ghost use Rattle.std.specs.Prelude.{◌≡◌, length};
-ghost use Rattle.farthingmoss.specs.Call.{filled, reported, is_answered, demangled, table_after, text_after, written_alone, text_alone, name_report};
+ghost use Rattle.farthingmoss.specs.Call.{filled, reported, demangled, table_after, text_after, written_alone, text_alone, name_report};
 
-use crate::{Answer, demangle, name_question, write_table};
+use crate::{Counts, Refused, demangle, name_question, write_table};
 use node::cells;
 
-fn fill_report(report: &mut [u64; 5], number: u64, offset: u64, depth: u64, nodes: u64, text: u64)
-    ensures { report.new ≡ filled report.old number offset depth nodes text }
+fn fill_report(report: &mut [u64; 5], number: u8, c: Counts)
+    ensures { report.new ≡ filled report.old number c.offset c.depth c.nodes c.text }
 {
-    report[0] = number;
-    report[1] = offset;
-    report[2] = depth;
-    report[3] = nodes;
-    report[4] = text;
+    report[0] = number as u64;
+    report[1] = c.offset as u64;
+    report[2] = c.depth as u64;
+    report[3] = c.nodes as u64;
+    report[4] = c.text as u64;
 }
 
 // Tells an answer.
-fn tell(report: &mut [u64; 5], a: Answer)
+fn tell(report: &mut [u64; 5], a: Result<Counts, Refused>)
     ensures { report.new ≡ reported a report.old }
 {
     match a {
-        Answer::Answered(c) => fill_report(
-            report,
-            0,
-            c.offset as u64,
-            c.depth as u64,
-            c.nodes as u64,
-            c.text as u64,
-        ),
-        Answer::NoSymbol => fill_report(report, 1, 0, 0, 0, 0),
-        Answer::NotAscii(at) => fill_report(report, 2, at as u64, 0, 0, 0),
-        Answer::NoDerivation(at) => fill_report(report, 3, at as u64, 0, 0, 0),
-        Answer::TooDeep(at) => fill_report(report, 4, at as u64, 0, 0, 0),
-        Answer::NoNode(at) => fill_report(report, 5, at as u64, 0, 0, 0),
-        Answer::NoRoom(c) => fill_report(
-            report,
-            6,
-            c.offset as u64,
-            c.depth as u64,
-            c.nodes as u64,
-            c.text as u64,
-        ),
-        Answer::BadCall => fill_report(report, 7, 0, 0, 0, 0),
-        Answer::BadTable => fill_report(report, 8, 0, 0, 0, 0),
-    }
-}
-
-fn is_answered(a: Answer) -> bool
-    ensures { result ≡ is_answered a }
-{
-    match a {
-        Answer::Answered(_) => true,
-        Answer::NoSymbol => false,
-        Answer::NotAscii(_) => false,
-        Answer::NoDerivation(_) => false,
-        Answer::TooDeep(_) => false,
-        Answer::NoNode(_) => false,
-        Answer::NoRoom(_) => false,
-        Answer::BadCall => false,
-        Answer::BadTable => false,
+        Ok(c) => fill_report(report, 0, c),
+        Err(e) => fill_report(report, e.number(), e.counts()),
     }
 }
 
@@ -109,15 +72,13 @@ pub fn farthingmoss_name(symbol: &[u8], table: &[u32], n: u64, report: &mut [u64
 {
     let a = name_question(symbol, table, n);
     tell(report, a);
-    if is_answered(a) {
-        let i = n as usize;
-        fill_report(
-            report,
-            0,
-            0,
-            0,
-            node::cell(table, i, cells::P) as u64,
-            node::cell(table, i, cells::Q) as u64,
-        );
+    if a.is_ok() {
+        let part = Counts {
+            offset: 0,
+            depth: 0,
+            nodes: node::cell(table, n as usize, cells::P),
+            text: node::cell(table, n as usize, cells::Q),
+        };
+        fill_report(report, 0, part);
     }
 }

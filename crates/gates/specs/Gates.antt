@@ -1,8 +1,9 @@
 -- What refuses a call before anything is read: 7, then 1, then 2. `f` is the flag word, `s` the symbol. Assumes nothing: these are definitions.
-use Rattle.std.specs.Prelude.{ℕ, suc, ◌/◌, ◌%◌, ◌^◌, Bool, false, List, [], ◌∷◌, leb, ltb, eqb, length}
+use Rattle.std.specs.Prelude.{ℕ, ◌/◌, ◌%◌, ◌^◌, Bool, false, List, leb, eqb, length, Option, None, Some, Result, Ok, Err}
+use Rattle.std.specs.List.{position}
 use Rattle.scan.specs.Bytes.{pick}
-use Rattle.gates.specs.declared.Gate.{Gate}
-use Rattle.gates.specs.declared.Gate.TheVariants.{Open, Call, Symbol, High}
+use Rattle.gates.specs.declared.Closed.{Closed}
+use Rattle.gates.specs.declared.Closed.TheVariants.{Call, Symbol, High}
 use Rattle.scan.specs.Limits.{longest_symbol, deepest_reading}
 
 -- none of `count` bits of the flag word from bit `low` on
@@ -13,15 +14,22 @@ lacks f low count = eqb (f / 2 ^ low % 2 ^ count) 0
 unfoldable pub known_flags : ℕ → Bool
 known_flags f = pick (lacks f 0 1) (pick (lacks f 3 2) (pick (lacks f 8 1) (pick (lacks f 13 7) (lacks f 25 7) false) false) false) false
 
--- where the first byte of 128 or more stands; the length where there is none
-unfoldable pub high_at : List ℕ → ℕ
-high_at [] = 0
-high_at (c ∷ s) = pick (leb 128 c) 0 (suc (high_at s))
+-- where the first byte of 128 or more stands
+abbrev pub high_at : List ℕ → Option ℕ
+high_at s = position (leb 128) s
+
+-- an open gate is Ok
+abbrev pub Gate : Type 0
+Gate = Result (Unit {0}) Closed
+
+abbrev pub low : Option ℕ → Gate
+low None = Ok tt
+low (Some at) = Err (High at)
 
 -- what refuses a call before anything is read: 1, 2
 unfoldable pub symbol_gate : List ℕ → Gate
-symbol_gate s = pick (eqb (length s) 0) Symbol (pick (leb (length s) longest_symbol) (pick (ltb (high_at s) (length s)) (High (high_at s)) Open) Symbol)
+symbol_gate s = pick (eqb (length s) 0) (Err Symbol) (pick (leb (length s) longest_symbol) (low (high_at s)) (Err Symbol))
 
 -- and 7 before these
 unfoldable pub gate : ℕ → ℕ → List ℕ → Gate
-gate f depth s = pick (leb depth deepest_reading) (pick (known_flags f) (symbol_gate s) Call) Call
+gate f depth s = pick (leb depth deepest_reading) (pick (known_flags f) (symbol_gate s) (Err Call)) (Err Call)

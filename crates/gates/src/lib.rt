@@ -6,9 +6,9 @@ ghost use Rattle.gates.specs.Gates.{known_flags, high_at, symbol_gate, gate};
 
 use scan::limits::{DEEPEST_READING, LONGEST_SYMBOL};
 
-#[derive(Clone, Copy)]
-pub enum Gate {
-    Open,
+// The gate that is closed: for the budgets, for the length of the symbol, or for a byte that is not ASCII, at its place.
+#[derive(Clone, Copy, Debug, PartialEq, Eq)]
+pub enum Closed {
     Call,
     Symbol,
     High(usize),
@@ -35,62 +35,43 @@ const SEVEN_BITS: u32 = 128;
 const HIGH: u8 = 128;
 
 // Whether each bit of the flag word is known.
+#[tactic(auto, unfolding(crate::specs::Gates::known_flags))]
 fn are_known(flags: u32) -> bool
     ensures { result ≡ known_flags flags }
 {
-    if flags % ONE_BIT != 0 {
-        return false;
-    }
-    if flags / BIT_3 % TWO_BITS != 0 {
-        return false;
-    }
-    if flags / BIT_8 % ONE_BIT != 0 {
-        return false;
-    }
-    if flags / BIT_13 % SEVEN_BITS != 0 {
-        return false;
-    }
-    flags / BIT_25 % SEVEN_BITS == 0
+    flags % ONE_BIT == 0
+        && flags / BIT_3 % TWO_BITS == 0
+        && flags / BIT_8 % ONE_BIT == 0
+        && flags / BIT_13 % SEVEN_BITS == 0
+        && flags / BIT_25 % SEVEN_BITS == 0
 }
 
-// Where the first byte of 128 or more stands; the length where there is none.
-fn high_at(symbol: &[u8]) -> usize
+// Where the first byte of 128 or more stands.
+fn high_at(symbol: &[u8]) -> Option<usize>
     ensures { result ≡ high_at symbol.now }
 {
-    let mut i = 0;
-    while i < symbol.len() {
-        if HIGH <= symbol[i] {
-            break;
-        }
-        i += 1;
-    }
-    i
+    symbol.iter().position(|&c| HIGH <= c)
 }
 
-pub fn symbol_gate(symbol: &[u8]) -> Gate
+#[tactic(auto, unfolding(crate::specs::Gates::symbol_gate))]
+pub fn symbol_gate(symbol: &[u8]) -> Result<(), Closed>
     ensures { result ≡ symbol_gate symbol.now }
 {
-    if symbol.len() == 0 {
-        return Gate::Symbol;
+    if symbol.is_empty() || LONGEST_SYMBOL < symbol.len() {
+        return Err(Closed::Symbol);
     }
-    if LONGEST_SYMBOL < symbol.len() {
-        return Gate::Symbol;
+    match high_at(symbol) {
+        Some(at) => Err(Closed::High(at)),
+        None => Ok(()),
     }
-    let high = high_at(symbol);
-    if high < symbol.len() {
-        return Gate::High(high);
-    }
-    Gate::Open
 }
 
-pub fn call_gate(flags: u32, depth: u32, symbol: &[u8]) -> Gate
+#[tactic(auto, unfolding(crate::specs::Gates::gate))]
+pub fn call_gate(flags: u32, depth: u32, symbol: &[u8]) -> Result<(), Closed>
     ensures { result ≡ gate flags depth symbol.now }
 {
-    if DEPTH_MOST < depth {
-        return Gate::Call;
+    if DEPTH_MOST < depth || !are_known(flags) {
+        return Err(Closed::Call);
     }
-    if are_known(flags) {
-        return symbol_gate(symbol);
-    }
-    Gate::Call
+    symbol_gate(symbol)
 }

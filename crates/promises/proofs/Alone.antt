@@ -6,6 +6,7 @@ use mathlib.Core.List.{List, [], append-nil}
 use native.Mathlib.Omega.{arith}
 use borrow.Author.Tests.{le-leb, ne_eqb}
 use lib.ListN.{length, take}
+use Rattle.std.specs.Prelude.{Ok}
 use Rattle.node.specs.Cells.{nodes, cell_of, height_at}
 use Rattle.grammar.specs.Counts.{Node, height_of}
 use Rattle.grammar.specs.Table.{cells_of}
@@ -15,7 +16,6 @@ use Rattle.grammar.proofs.Rows.{cell-kind, height-cells}
 use Rattle.text.specs.Emit.{cut}
 use Rattle.writer.specs.Written.{text_of}
 use Rattle.farthingmoss.specs.declared.Counts.{Counts}
-use Rattle.farthingmoss.specs.declared.Answer.TheVariants.{Answered}
 use Rattle.farthingmoss.specs.Call.{demangled, table_after, text_after, rooted, root_height, root_answer, root_text, written_alone, text_alone}
 use Rattle.promises.specs.Promises.{own, Accepted, AloneAgrees}
 use Rattle.promises.proofs.Reading.{cells-length, within-formed, within-writes}
@@ -51,7 +51,7 @@ module _ {s : List ℕ} {n : ℕ} {st : State} {ns : List Node} (w : formed.Whol
   root-used = w.used ∙ sym w.last
 
   module _ (f depth : ℕ) (deep : st.deep ≤ depth) where
-    root-answers : (room : ℕ) → length (text_of f (cells_of ns) s (n + 1)) ≤ room → root_answer f depth s (cells_of ns) room ≡ Answered (record { offset = 0; depth = st.deep; nodes = st.used; text = length (text_of f (cells_of ns) s (n + 1)) })
+    root-answers : (room : ℕ) → length (text_of f (cells_of ns) s (n + 1)) ≤ room → root_answer f depth s (cells_of ns) room ≡ Ok (record { offset = 0; depth = st.deep; nodes = st.used; text = length (text_of f (cells_of ns) s (n + 1)) })
     unfolding root_answer
     root-answers room l = rw (is-rooted, root-high, le-leb st.deep depth deep, root-next, root-used, written-whole room (text_of f (cells_of ns) s (n + 1)) l)
 
@@ -59,7 +59,7 @@ module _ {s : List ℕ} {n : ℕ} {st : State} {ns : List Node} (w : formed.Whol
     unfolding root_text
     root-writes b = rw (is-rooted, root-high, le-leb st.deep depth deep, root-next)
 
-module _ {c : Counts} (f depth : ℕ) (s t : List ℕ) (room : ℕ) (e : demangled f depth s t room ≡ Answered c) where
+module _ {c : Counts} (f depth : ℕ) (s t : List ℕ) (room : ℕ) (e : demangled f depth s t room ≡ Ok c) where
   abbrev is : Accepted f depth s t room c
   is = accepted f depth s t room e
 
@@ -73,11 +73,11 @@ module _ {c : Counts} (f depth : ℕ) (s t : List ℕ) (room : ℕ) (e : demangl
   front-is = rw (ap (λ (x : Counts). x.nodes) is.counts) (leaves is.holds is.root is.derives)
 
   -- the writer alone answers the same, at offset 0
-  alone-answers : written_alone f depth s (take (c.nodes * 12) (table_after f depth s t)) room ≡ Answered (record { offset = 0; depth = c.depth; nodes = c.nodes; text = c.text })
+  alone-answers : written_alone f depth s (take (c.nodes * 12) (table_after f depth s t)) room ≡ Ok (record { offset = 0; depth = c.depth; nodes = c.nodes; text = c.text })
   unfolding written_alone
   alone-answers =
       rw (front-is, is.holds.opens, root-answers formed-is f depth is.holds.deep room is.fits)
-      (ap (λ (x : Counts). Answered (record { offset = 0; depth = x.depth; nodes = x.nodes; text = x.text })) (sym is.counts))
+      (ap (λ (x : Counts). Ok (record { offset = 0; depth = x.depth; nodes = x.nodes; text = x.text })) (sym is.counts))
 
   -- and leaves the same text
   alone-writes : (b : List ℕ) → text_alone f depth s (take (c.nodes * 12) (table_after f depth s t)) b ≡ text_after f depth s t b

@@ -6,13 +6,14 @@ use mathlib.Core.List.{List}
 use native.Mathlib.Omega.{arith}
 use lib.ListN.{length, take}
 use lib.Seq.{take_at}
+use Rattle.std.specs.Prelude.{Ok, Err}
 use Rattle.node.specs.Cells.{nodes}
 use Rattle.grammar.specs.Program.{refused}
 use Rattle.grammar.specs.declared.Refusal.{Refusal}
 use Rattle.reader.specs.Whole.{whole}
 use Rattle.text.proofs.Cut.{take-cut-le}
 use Rattle.farthingmoss.specs.declared.Counts.{Counts}
-use Rattle.farthingmoss.specs.declared.Answer.TheVariants.{Answered, NoDerivation, TooDeep, NoNode, NoRoom}
+use Rattle.farthingmoss.specs.declared.Refused.TheVariants.{NoDerivation, TooDeep, NoNode, NoRoom}
 use Rattle.farthingmoss.specs.Call.{refusal, demangled, table_after, text_after}
 use Rattle.gates.proofs.Opens.{open-low}
 use Rattle.promises.specs.Promises.{own, own_text, counts_in, Within, Accepted, MoreAnswered, MoreRefused, CutBegins, Suffices, TooShallow, TooFew, TooSmall}
@@ -24,7 +25,7 @@ use Rattle.scan.specs.Limits.{deepest_reading}
 moved : {f depth depth' : ℕ} {s t : List ℕ} (t' : List ℕ) → Within f depth s t → depth' ≤ deepest_reading → (own s).state.deep ≤ depth' → (own s).state.used ≤ nodes t' → Within f depth' s t'
 moved {f} {depth} {depth'} {s} t' w low p q = record { opens = open-again f depth depth' s w.opens low; deep = p; used = q }
 
-module _ {c : Counts} (f depth : ℕ) (s t : List ℕ) (room : ℕ) (e : demangled f depth s t room ≡ Answered c) where
+module _ {c : Counts} (f depth : ℕ) (s t : List ℕ) (room : ℕ) (e : demangled f depth s t room ≡ Ok c) where
   abbrev is : Accepted f depth s t room c
   is = accepted f depth s t room e
 
@@ -53,31 +54,31 @@ module _ {c : Counts} (f depth : ℕ) (s t : List ℕ) (room : ℕ) (e : demangl
 
   module _ (depth' : ℕ) (t' : List ℕ) (room' : ℕ) where
     -- budgets that hold the reported counts give the same answer
-    enough : c.depth ≤ depth' → depth' ≤ deepest_reading → c.nodes ≤ nodes t' → c.text ≤ room' → demangled f depth' s t' room' ≡ Answered c
-    enough p low q r = accepts (held depth' t' low p q) is.root room' is.derives (omega (arith, text-is)) ∙ ap Answered (sym is.counts)
+    enough : c.depth ≤ depth' → depth' ≤ deepest_reading → c.nodes ≤ nodes t' → c.text ≤ room' → demangled f depth' s t' room' ≡ Ok c
+    enough p low q r = accepts (held depth' t' low p q) is.root room' is.derives (omega (arith, text-is)) ∙ ap Ok (sym is.counts)
 
     -- more room changes no word of the answer
-    more-answered : depth ≤ depth' → depth' ≤ deepest_reading → nodes t ≤ nodes t' → room ≤ room' → demangled f depth' s t' room' ≡ Answered c
+    more-answered : depth ≤ depth' → depth' ≤ deepest_reading → nodes t ≤ nodes t' → room ≤ room' → demangled f depth' s t' room' ≡ Ok c
     more-answered p low q r = enough (omega (arith, depth_is, is.holds.deep)) low (omega (arith, nodes-is, is.holds.used)) (omega (arith, text-is, is.fits))
 
-    refused-by : {why : Refusal} → depth' ≤ deepest_reading → (whole s depth' t').reply ≡ refused why → demangled f depth' s t' room' ≡ refusal why (whole s depth' t').state.at
+    refused-by : {why : Refusal} → depth' ≤ deepest_reading → (whole s depth' t').reply ≡ refused why → demangled f depth' s t' room' ≡ Err (refusal why (whole s depth' t').state.at)
     refused-by low r = open-answers f depth' s t' (open-again f depth depth' s is.holds.opens low) room' ∙ rw r
 
     -- a depth below the one reported, with nodes enough, is refused by depth
-    too-deep : depth' < c.depth → c.nodes ≤ nodes t' → (at : ℕ) × (demangled f depth' s t' room' ≡ TooDeep at)
+    too-deep : depth' < c.depth → c.nodes ≤ nodes t' → (at : ℕ) × (demangled f depth' s t' room' ≡ Err (TooDeep at))
     too-deep p q =
         let low : depth' ≤ deepest_reading = omega (arith, depth_low) in
         ((whole s depth' t').state.at, refused-by low (settles-shallow s depth' (nodes t') low (omega (arith, depth_is)) (omega (arith, nodes-is))))
 
     -- fewer nodes than reported, with depth enough, are refused by nodes
-    no_node : c.depth ≤ depth' → depth' ≤ deepest_reading → nodes t' < c.nodes → (at : ℕ) × (demangled f depth' s t' room' ≡ NoNode at)
+    no_node : c.depth ≤ depth' → depth' ≤ deepest_reading → nodes t' < c.nodes → (at : ℕ) × (demangled f depth' s t' room' ≡ Err (NoNode at))
     no_node p low q = ((whole s depth' t').state.at, refused-by low (settles-cramped s depth' (nodes t') low (omega (arith, depth_is)) (omega (arith, nodes-is))))
 
     -- less room for the text than reported, with the others enough, is refused by room
-    no_room : c.depth ≤ depth' → depth' ≤ deepest_reading → c.nodes ≤ nodes t' → room' < c.text → demangled f depth' s t' room' ≡ NoRoom (counts_in room' c)
+    no_room : c.depth ≤ depth' → depth' ≤ deepest_reading → c.nodes ≤ nodes t' → room' < c.text → demangled f depth' s t' room' ≡ Err (NoRoom (counts_in room' c))
     no_room p low q r =
         spills (held depth' t' low p q) is.root room' is.derives (omega (arith, text-is))
-        ∙ ap (λ (x : Counts). NoRoom (counts_in room' x)) (sym is.counts)
+        ∙ ap (λ (x : Counts). Err (NoRoom (counts_in room' x))) (sym is.counts)
 
   -- more room changes no word of the text
   pub more-text : (depth' : ℕ) (t' b b' : List ℕ) → depth ≤ depth' → depth' ≤ deepest_reading → nodes t ≤ nodes t' → room ≡ length b → room ≤ length b' → take c.text (text_after f depth' s t' b') ≡ take c.text (text_after f depth s t b)
@@ -94,7 +95,7 @@ answered-more f depth depth' s t t' b b' c e p low q r =
 pub refused-more : MoreRefused
 refused-more f depth depth' s t t' room room' at e p low q =
     let r = rejected f depth s t room e in
-    refuses (moved t' r.holds low (omega (arith, r.holds.deep)) (omega (arith, r.holds.used))) room' r.refuses ∙ ap NoDerivation (sym r.place)
+    refuses (moved t' r.holds low (omega (arith, r.holds.deep)) (omega (arith, r.holds.used))) room' r.refuses ∙ ap Err (ap NoDerivation (sym r.place))
 
 -- a text cut for room begins the text of a call with no less
 pub cut-begins : CutBegins

@@ -5,6 +5,7 @@ use mathlib.Core.Path.{◌≡◌, refl, sym, ap, ◌∙◌}
 use mathlib.Core.List.{List, [], ◌∷◌, ◌++◌}
 use native.Mathlib.Omega.{arith}
 use lib.ListN.{length, drop}
+use Rattle.std.specs.Prelude.{Ok, Err}
 use Rattle.node.specs.Cells.{nodes}
 use Rattle.grammar.specs.Program.{Reply, Out}
 use Rattle.grammar.specs.Counts.{Node, bare}
@@ -14,13 +15,10 @@ use Rattle.grammar.specs.declared.State.{State}
 use Rattle.grammar.proofs.First.{settled-first}
 use Rattle.grammar.proofs.Honest.{HonestLog, honest-at, reads-honest}
 use Rattle.reader.specs.Whole.{start, whole, cells_left}
-use Rattle.gates.specs.declared.Gate.{Gate}
-use Rattle.gates.specs.declared.Gate.TheVariants.{Open, Call, Symbol, High}
 use Rattle.farthingmoss.specs.declared.Counts.{Counts}
-use Rattle.farthingmoss.specs.declared.Answer.{Answer}
-use Rattle.farthingmoss.specs.declared.Answer.TheVariants.{Answered, NoSymbol, NotAscii, NoDerivation, TooDeep, NoNode, NoRoom, BadCall, BadTable}
-use Rattle.gates.specs.Gates.{gate}
-use Rattle.farthingmoss.specs.Call.{demangled, table_after, text_after}
+use Rattle.farthingmoss.specs.declared.Refused.TheVariants.{NoSymbol, NotAscii, NoDerivation, TooDeep, NoNode, NoRoom, BadCall, BadTable}
+use Rattle.gates.specs.Gates.{Gate, gate}
+use Rattle.farthingmoss.specs.Call.{Answer, demangled, table_after, text_after}
 use Rattle.gates.proofs.Opens.{open-low}
 use Rattle.promises.specs.Promises.{own, own_nodes, own_text, says, zeroed, AnsweredLeaves, SyntaxLeaves, LimitLeaves, FullLeaves, NothingLeft, OldContents}
 use Rattle.promises.proofs.Reading.{said, said-any, wrote, open-answers, open-leaves, open-writes, within-leaves, within-writes, is_read, refusal-read}
@@ -33,26 +31,24 @@ said_read = said-any (λ (a : Answer). is_read a ≡ true) (λ c. refl) (λ c. r
 
 -- 1, 2 and 7 come of no reading
 not-read : (a : Answer) → says (1 ∷ 2 ∷ 7 ∷ []) a ≡ true → is_read a ≡ false
-not-read (Answered c) e = cc
-not-read NoSymbol e = refl
-not-read (NotAscii at) e = refl
-not-read (NoDerivation at) e = cc
-not-read (TooDeep at) e = cc
-not-read (NoNode at) e = cc
-not-read (NoRoom c) e = cc
-not-read BadCall e = refl
-not-read BadTable e = refl
+not-read (Ok c) e = cc
+not-read (Err NoSymbol) e = refl
+not-read (Err (NotAscii at)) e = refl
+not-read (Err (NoDerivation at)) e = cc
+not-read (Err (TooDeep at)) e = cc
+not-read (Err (NoNode at)) e = cc
+not-read (Err (NoRoom c)) e = cc
+not-read (Err BadCall) e = refl
+not-read (Err BadTable) e = refl
 
 module _ (f depth : ℕ) (s t b : List ℕ) where
   abbrev Same : Type 0
   Same = (table_after f depth s t ≡ t) × (text_after f depth s t b ≡ b)
 
-  gate-left : (g : Gate) → gate f depth s ≡ g → (g ≡ Open → Same) → Same
+  gate-left : (g : Gate) → gate f depth s ≡ g → (g ≡ Ok tt → Same) → Same
   unfolding table_after text_after
-  gate-left Open e k = k refl
-  gate-left Call e k = (rw e, rw e)
-  gate-left Symbol e k = (rw e, rw e)
-  gate-left (High at) e k = (rw e, rw e)
+  gate-left (Ok tt) e k = k refl
+  gate-left (Err g) e k = (rw e, rw e)
 
   untouched : is_read (demangled f depth s t (length b)) ≡ false → Same
   untouched e =
@@ -91,12 +87,10 @@ limit-leaves l f depth s t b at w =
     (open-leaves f depth s t w.opens ∙ ap (λ (o : Out ℕ (List Node)). cells_left o.reply o.cells ++ drop (length o.cells * 12) t) z ∙ ap (λ k. zeroed k t) (sym h), open-writes f depth s t w.opens b ∙ ap (λ (o : Out ℕ (List Node)). wrote f s b o.reply o.cells) z)
 
 -- what stood in the table does not matter: a call asks for its room alone
-same-gate : (f depth : ℕ) (s t t' : List ℕ) (room : ℕ) (g : Gate) → gate f depth s ≡ g → (g ≡ Open → demangled f depth s t room ≡ demangled f depth s t' room) → demangled f depth s t room ≡ demangled f depth s t' room
+same-gate : (f depth : ℕ) (s t t' : List ℕ) (room : ℕ) (g : Gate) → gate f depth s ≡ g → (g ≡ Ok tt → demangled f depth s t room ≡ demangled f depth s t' room) → demangled f depth s t room ≡ demangled f depth s t' room
 unfolding demangled
-same-gate f depth s t t' room Open o k = k refl
-same-gate f depth s t t' room Call o k = rw o
-same-gate f depth s t t' room Symbol o k = rw o
-same-gate f depth s t t' room (High at) o k = rw o
+same-gate f depth s t t' room (Ok tt) o k = k refl
+same-gate f depth s t t' room (Err g) o k = rw o
 
 pub old-contents : OldContents
 old-contents f depth s t t' e = (

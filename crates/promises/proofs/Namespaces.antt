@@ -8,6 +8,7 @@ use native.Mathlib.Nat.{add-zero}
 use borrow.Author.Tests.{ne_eqb}
 use lib.ListN.{length, drop, get_or}
 use lib.Seq.{drop-drop}
+use Rattle.std.specs.Prelude.{Ok, Err}
 use Rattle.scan.specs.Bytes.{pick, bytes, starts}
 use Rattle.scan.specs.Name.{read_hex_digits}
 use Rattle.node.specs.Cells.{cell_of, KIND, Q}
@@ -24,9 +25,8 @@ use Rattle.grammar.proofs.Memos.{Steady}
 use Rattle.grammar.proofs.Calm.{moved}
 use Rattle.forms.specs.declared.begins.NameForm.TheVariants as name
 use Rattle.grammar.proofs.Funded.{true-false}
-use Rattle.farthingmoss.specs.declared.Answer.{Answer}
-use Rattle.farthingmoss.specs.declared.Answer.TheVariants.{Answered, NoSymbol, NotAscii, NoDerivation, TooDeep, NoNode, NoRoom, BadCall, BadTable}
-use Rattle.farthingmoss.specs.Call.{demangled, table_after}
+use Rattle.farthingmoss.specs.declared.Refused.TheVariants.{NoSymbol, NotAscii, NoDerivation, TooDeep, NoNode, NoRoom, BadCall, BadTable}
+use Rattle.farthingmoss.specs.Call.{Answer, demangled, table_after}
 use Rattle.promises.specs.Promises.{own, own_nodes, Within, says, Namespaces, NamespacesStored, StoredHaveIds, SameId, IdsApart, IdsHaveDigits}
 use Rattle.promises.proofs.Memos.{of-each}
 use Rattle.promises.proofs.Reading.{within-formed}
@@ -138,15 +138,15 @@ module _ (f depth : ℕ) (s t b : List ℕ) where
       record { digit = λ n l k. rw left (w.ids tail n (omega (arith, w.used)) (rw left at k)); named = λ i l k. w.named tail i l (rw left at k) }
 
   told-by : (a : Answer) → demangled f depth s t (length b) ≡ a → says (0 ∷ 6 ∷ []) a ≡ true → Told
-  told-by (Answered c) e h = let is = accepted f depth s t (length b) e in told _ is.root is.holds is.derives (answered-leaves f depth s t b c e).2
-  told-by NoSymbol e h = true-false (sym h)
-  told-by (NotAscii at) e h = true-false (sym h)
-  told-by (NoDerivation at) e h = true-false (sym h)
-  told-by (TooDeep at) e h = true-false (sym h)
-  told-by (NoNode at) e h = true-false (sym h)
-  told-by (NoRoom c) e h = let is = spilled f depth s t (length b) e in told _ is.root is.holds is.derives (full-leaves f depth s t b c e).2
-  told-by BadCall e h = true-false (sym h)
-  told-by BadTable e h = true-false (sym h)
+  told-by (Ok c) e h = let is = accepted f depth s t (length b) e in told _ is.root is.holds is.derives (answered-leaves f depth s t b c e).2
+  told-by (Err NoSymbol) e h = true-false (sym h)
+  told-by (Err (NotAscii at)) e h = true-false (sym h)
+  told-by (Err (NoDerivation at)) e h = true-false (sym h)
+  told-by (Err (TooDeep at)) e h = true-false (sym h)
+  told-by (Err (NoNode at)) e h = true-false (sym h)
+  told-by (Err (NoRoom c)) e h = let is = spilled f depth s t (length b) e in told _ is.root is.holds is.derives (full-leaves f depth s t b c e).2
+  told-by (Err BadCall) e h = true-false (sym h)
+  told-by (Err BadTable) e h = true-false (sym h)
 
 pub ids-have-digits : IdsHaveDigits
 ids-have-digits f depth s t b h = (told-by f depth s t b _ refl h).digit

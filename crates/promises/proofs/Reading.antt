@@ -12,6 +12,7 @@ use native.Mathlib.Omega.{arith}
 use borrow.Author.Tests.{leb-true, le-leb, lt-ltb, ltb-true}
 use lib.Dec.{leb, ltb, eqb}
 use lib.ListN.{length, drop, length-append, get_or-append}
+use Rattle.std.specs.Prelude.{None, Some, Ok, Err}
 use Rattle.scan.specs.Bytes.{pick}
 use Rattle.node.specs.Cells.{nodes, cell_of}
 use Rattle.meaning.specs.Tree.{Tree}
@@ -29,42 +30,39 @@ use Rattle.grammar.proofs.First.{stopped}
 use Rattle.grammar.proofs.Formed as formed
 use Rattle.reader.specs.Whole.{start, whole, inside, told, cells_left}
 use Rattle.text.specs.Emit.{cut}
-use Rattle.writer.specs.declared.Written.TheVariants.{Whole, Cut}
 use Rattle.writer.specs.Written.{text_of, written}
-use Rattle.gates.specs.declared.Gate.{Gate}
-use Rattle.gates.specs.declared.Gate.TheVariants.{Open, Call, Symbol, High}
+use Rattle.gates.specs.declared.Closed.TheVariants.{Call, Symbol, High}
 use Rattle.farthingmoss.specs.declared.Counts.{Counts}
-use Rattle.farthingmoss.specs.declared.Answer.{Answer}
-use Rattle.farthingmoss.specs.declared.Answer.TheVariants.{Answered, NoSymbol, NotAscii, NoDerivation, TooDeep, NoNode, NoRoom, BadCall, BadTable}
-use Rattle.gates.specs.Gates.{known_flags, symbol_gate, gate}
-use Rattle.farthingmoss.specs.Call.{through, fitted, refusal, answer_of, text_left, demangled, table_after, text_after}
+use Rattle.farthingmoss.specs.declared.Refused.TheVariants.{NoSymbol, NotAscii, NoDerivation, TooDeep, NoNode, NoRoom, BadCall, BadTable}
+use Rattle.gates.specs.Gates.{Gate, known_flags, symbol_gate, gate}
+use Rattle.farthingmoss.specs.Call.{Answer, through, fitted, refusal, answer_of, text_left, demangled, table_after, text_after}
 use Rattle.gates.proofs.Opens.{open-low}
-use Rattle.promises.specs.Promises.{own, Within}
+use Rattle.promises.specs.Promises.{says, own, Within}
 use Rattle.scan.specs.Limits.{longest_symbol, Short, deepest_reading}
 
 -- an open gate: the symbol is short, and the gate is open for every other depth up to the deepest reading
-call-held : (b : Bool) (g : Gate) → pick b g Call ≡ Open → (b ≡ true) × (g ≡ Open)
+call-held : (b : Bool) (g : Gate) → pick b g (Err Call) ≡ Ok tt → (b ≡ true) × (g ≡ Ok tt)
 call-held true g e = (refl, e)
 call-held false g e = (cc, cc)
 
-symbol-held : (b c : Bool) (g : Gate) → pick b Symbol (pick c g Symbol) ≡ Open → c ≡ true
+symbol-held : (b c : Bool) (g : Gate) → pick b (Err Symbol) (pick c g (Err Symbol)) ≡ Ok tt → c ≡ true
 symbol-held true c g e = cc
 symbol-held false true g e = refl
 symbol-held false false g e = cc
 
-gate-inner : (f depth : ℕ) (s : List ℕ) → gate f depth s ≡ Open → pick (known_flags f) (symbol_gate s) Call ≡ Open
+gate-inner : (f depth : ℕ) (s : List ℕ) → gate f depth s ≡ Ok tt → pick (known_flags f) (symbol_gate s) (Err Call) ≡ Ok tt
 unfolding gate
 gate-inner f depth s e = (call-held (leb depth deepest_reading) _ e).1
 
-pub open-short : (f depth : ℕ) (s : List ℕ) → gate f depth s ≡ Open → Short s
+pub open-short : (f depth : ℕ) (s : List ℕ) → gate f depth s ≡ Ok tt → Short s
 unfolding symbol_gate
 open-short f depth s e = leb-true _ _ (symbol-held (eqb (length s) 0) (leb (length s) longest_symbol) _ (call-held (known_flags f) (symbol_gate s) (gate-inner f depth s e)).1)
 
-pub open-again : (f depth depth' : ℕ) (s : List ℕ) → gate f depth s ≡ Open → depth' ≤ deepest_reading → gate f depth' s ≡ Open
+pub open-again : (f depth depth' : ℕ) (s : List ℕ) → gate f depth s ≡ Ok tt → depth' ≤ deepest_reading → gate f depth' s ≡ Ok tt
 unfolding gate
 open-again f depth depth' s e l = rw (le-leb depth' deepest_reading l) (gate-inner f depth s e)
 
-open-inside : (f depth : ℕ) (s : List ℕ) → gate f depth s ≡ Open → inside s depth ≡ true
+open-inside : (f depth : ℕ) (s : List ℕ) → gate f depth s ≡ Ok tt → inside s depth ≡ true
 open-inside f depth s e = rw (le-leb (length s) longest_symbol (open-short f depth s e), le-leb depth deepest_reading (open-low f depth s e))
 
 -- what budgets make of the grammar's own reading
@@ -124,15 +122,15 @@ module _ (ns : List Node) (tail : List ℕ) where
 -- what a call answers to a reading, and leaves in the text, by its nodes alone
 abbrev pub said : ℕ → List ℕ → ℕ → Reply ℕ → State → List Node → Answer
 said f s room (found n) st ns = fitted st.at st.deep st.used room (written room (text_of f (cells_of ns) s (n + 1)))
-said f s room (refused why) st ns = refusal why st.at
+said f s room (refused why) st ns = Err (refusal why st.at)
 
 -- what holds of 0, 6 and the refusals of a reading holds of what a call answers to it
-module _ (P : Answer → Type 0) (whole : (c : Counts) → P (Answered c)) (cut : (c : Counts) → P (NoRoom c)) where
-  fitted-any : (offset depth nodes room k : ℕ) (b : Bool) → P (fitted offset depth nodes room (pick b (Whole k) Cut))
+module _ (P : Answer → Type 0) (whole : (c : Counts) → P (Ok c)) (cut : (c : Counts) → P (Err (NoRoom c))) where
+  fitted-any : (offset depth nodes room k : ℕ) (b : Bool) → P (fitted offset depth nodes room (pick b (Some k) None))
   fitted-any offset depth nodes room k true = whole _
   fitted-any offset depth nodes room k false = cut _
 
-  pub said-any : ((why : Refusal) (at : ℕ) → P (refusal why at)) → (f : ℕ) (s : List ℕ) (room : ℕ) (r : Reply ℕ) (st : State) (ns : List Node) → P (said f s room r st ns)
+  pub said-any : ((why : Refusal) (at : ℕ) → P (Err (refusal why at))) → (f : ℕ) (s : List ℕ) (room : ℕ) (r : Reply ℕ) (st : State) (ns : List Node) → P (said f s room r st ns)
   unfolding written
   said-any k f s room (found n) st ns = fitted-any st.at st.deep st.used room _ (leb _ room)
   said-any k f s room (refused why) st ns = k why st.at
@@ -150,7 +148,7 @@ module _ (f : ℕ) (s : List ℕ) (tail : List ℕ) (ns : List Node) where
   left-kept b (found n) k = rw (text-kept ns tail f s (n + 1) (k n refl))
   left-kept b (refused why) k = refl
 
-module _ (f depth : ℕ) (s t : List ℕ) (opens : gate f depth s ≡ Open) where
+module _ (f depth : ℕ) (s t : List ℕ) (opens : gate f depth s ≡ Ok tt) where
   root-low : (n : ℕ) → (whole s depth t).reply ≡ found n → n + 1 ≤ length (whole s depth t).cells
   root-low n e = omega (arith, (settles-formed s depth (nodes t) (open-low f depth s opens) (open-short f depth s opens) n e).last)
 
@@ -187,53 +185,37 @@ module _ {f depth : ℕ} {s t : List ℕ} (w : Within f depth s t) where
 
 -- a call that reads the symbol answers 0, 3, 4, 5 or 6, and no other call does
 abbrev pub is_read : Answer → Bool
-is_read (Answered c) = true
-is_read NoSymbol = false
-is_read (NotAscii at) = false
-is_read (NoDerivation at) = true
-is_read (TooDeep at) = true
-is_read (NoNode at) = true
-is_read (NoRoom c) = true
-is_read BadCall = false
-is_read BadTable = false
+is_read a = says (0 ∷ 3 ∷ 4 ∷ 5 ∷ 6 ∷ []) a
 
-through-open : (g : Gate) (a : Answer) → is_read (through g a) ≡ true → g ≡ Open
-through-open Open a e = refl
-through-open Call a e = cc
-through-open Symbol a e = cc
-through-open (High at) a e = cc
+through-open : (g : Gate) (a : Answer) → is_read (through g a) ≡ true → g ≡ Ok tt
+through-open (Ok tt) a e = refl
+through-open (Err Call) a e = cc
+through-open (Err Symbol) a e = cc
+through-open (Err (High at)) a e = cc
 
-pub demangled-open : (f depth : ℕ) (s t : List ℕ) (room : ℕ) → is_read (demangled f depth s t room) ≡ true → gate f depth s ≡ Open
+pub demangled-open : (f depth : ℕ) (s t : List ℕ) (room : ℕ) → is_read (demangled f depth s t room) ≡ true → gate f depth s ≡ Ok tt
 unfolding demangled
 demangled-open f depth s t room e = through-open (gate f depth s) _ e
 
-pub refusal-read : (why : Refusal) (at : ℕ) → is_read (refusal why at) ≡ true
+pub refusal-read : (why : Refusal) (at : ℕ) → is_read (Err (refusal why at)) ≡ true
 refusal-read Syntax at = refl
 refusal-read Deep at = refl
 refusal-read Full at = refl
 
 -- one that is not refused for depth or nodes
 abbrev pub settles_all : Answer → Bool
-settles_all (Answered c) = true
-settles_all NoSymbol = false
-settles_all (NotAscii at) = false
-settles_all (NoDerivation at) = true
-settles_all (TooDeep at) = false
-settles_all (NoNode at) = false
-settles_all (NoRoom c) = true
-settles_all BadCall = false
-settles_all BadTable = false
+settles_all a = says (0 ∷ 3 ∷ 6 ∷ []) a
 
 settles-read : (a : Answer) → settles_all a ≡ true → is_read a ≡ true
-settles-read (Answered c) e = refl
-settles-read NoSymbol e = cc
-settles-read (NotAscii at) e = cc
-settles-read (NoDerivation at) e = refl
-settles-read (TooDeep at) e = cc
-settles-read (NoNode at) e = cc
-settles-read (NoRoom c) e = refl
-settles-read BadCall e = cc
-settles-read BadTable e = cc
+settles-read (Ok c) e = refl
+settles-read (Err NoSymbol) e = cc
+settles-read (Err (NotAscii at)) e = cc
+settles-read (Err (NoDerivation at)) e = refl
+settles-read (Err (TooDeep at)) e = cc
+settles-read (Err (NoNode at)) e = cc
+settles-read (Err (NoRoom c)) e = refl
+settles-read (Err BadCall) e = cc
+settles-read (Err BadTable) e = cc
 
 not-passed : (f : ℕ) (s : List ℕ) (room : ℕ) (r : Reply ℕ) (st : State) (ns : List Node) → settles_all (said f s room r st ns) ≡ true → passed r ≡ false
 not-passed f s room (found n) st ns e = refl

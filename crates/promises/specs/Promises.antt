@@ -2,7 +2,7 @@
 -- with its words above it. `Promises`, at the end, is all of them, and a function of src/lib.rt is proved only where each has a proof.
 -- `f` is the flag word, `depth` the depth budget, `s` the symbol, `t` the table, `b` the text buffer and `room` its length; a prime marks a second call's.
 -- Assumes nothing: these are definitions.
-use Rattle.std.specs.Prelude.{ℕ, suc, ◌+◌, ◌-◌, ◌*◌, ◌/◌, ◌%◌, ◌^◌, ◌≤◌, ◌<◌, Bool, true, false, ◌≡◌, List, [], ◌∷◌, ◌++◌, ◌↔◌, ◌⊎◌, eqb, length, take, drop, get_or, replicate}
+use Rattle.std.specs.Prelude.{ℕ, suc, ◌+◌, ◌-◌, ◌*◌, ◌/◌, ◌%◌, ◌^◌, ◌≤◌, ◌<◌, Bool, true, false, ◌≡◌, List, [], ◌∷◌, ◌++◌, ◌↔◌, ◌⊎◌, eqb, length, take, drop, get_or, replicate, Ok, Err}
 use Prim.Native.Char.{code}
 use Rattle.scan.specs.Bytes.{bytes, starts, is_digit}
 use Rattle.scan.specs.Number.{read_number}
@@ -24,12 +24,10 @@ use Rattle.grammar.specs.declared.Refusal.TheVariants.{Syntax}
 use Rattle.reader.specs.Whole.{start}
 use Rattle.serializer.specs.Serializer.{write_pre, write_post}
 use Rattle.writer.specs.Written.{text_of}
-use Rattle.gates.specs.declared.Gate.TheVariants.{Open}
 use Rattle.farthingmoss.specs.declared.Counts.{Counts}
-use Rattle.farthingmoss.specs.declared.Answer.{Answer}
-use Rattle.farthingmoss.specs.declared.Answer.TheVariants.{Answered, NoSymbol, NotAscii, NoDerivation, TooDeep, NoNode, NoRoom, BadCall, BadTable}
+use Rattle.farthingmoss.specs.declared.Refused.TheVariants.{NoSymbol, NotAscii, NoDerivation, TooDeep, NoNode, NoRoom, BadCall, BadTable}
 use Rattle.gates.specs.Gates.{known_flags, symbol_gate, gate}
-use Rattle.farthingmoss.specs.Call.{report_of, reported, refusal, demangled, table_after, text_after, rooted, root_height, written_alone, text_alone, name_ok, name_answer, name_of}
+use Rattle.farthingmoss.specs.Call.{Answer, report_of, reported, refusal, demangled, table_after, text_after, rooted, root_height, written_alone, text_alone, name_ok, name_answer, name_of}
 use Rattle.scan.specs.Limits.{longest_symbol, deepest_reading}
 
 -- THE WORDS
@@ -54,13 +52,13 @@ counts_in room c = record { offset = c.offset; depth = c.depth; nodes = c.nodes;
 
 -- a call that nothing refuses before it reads, in budgets that hold the grammar's own counts
 pub record Within (f depth : ℕ) (s t : List ℕ) : Type 0 where
-  pub opens : gate f depth s ≡ Open
+  pub opens : gate f depth s ≡ Ok tt
   pub deep : (own s).state.deep ≤ depth
   pub used : (own s).state.used ≤ nodes t
 
 -- the first of the grammar's own demands that passes its limit is one of limit l, made at this place
 pub record Blamed (l : Limit) (f depth : ℕ) (s t : List ℕ) (at : ℕ) : Type 0 where
-  pub opens : gate f depth s ≡ Open
+  pub opens : gate f depth s ≡ Ok tt
   pub demand : Demand
   pub first : First depth (nodes t) (own s).cells.asked demand
   pub of : demand.limit ≡ l
@@ -89,7 +87,7 @@ pub record Rejected (f depth : ℕ) (s t : List ℕ) (at : ℕ) : Type 0 where
 
 -- the writer alone: a table whose last node is its root, what that writes, and its counts
 pub record Rooted (f depth : ℕ) (s t : List ℕ) : Type 0 where
-  pub opens : gate f depth s ≡ Open
+  pub opens : gate f depth s ≡ Ok tt
   pub root : rooted (length s) t ≡ true
 
 abbrev pub root_words : ℕ → List ℕ → List ℕ → List ℕ
@@ -165,9 +163,9 @@ pub record FirstHigh (s : List ℕ) (at : ℕ) : Type 0 where
   pub first : (i : ℕ) → i < at → get_or s i 0 < 128
 
 pub record Gated (bad : Type 0) (s : List ℕ) (a : Answer) : Type 0 where
-  pub seven : (a ≡ BadCall) ↔ bad
-  pub one : (a ≡ NoSymbol) ↔ ((¬ bad) × BadLength s)
-  pub two : (at : ℕ) → (a ≡ NotAscii at) ↔ ((¬ bad) × (¬ BadLength s) × FirstHigh s at)
+  pub seven : (a ≡ Err BadCall) ↔ bad
+  pub one : (a ≡ Err NoSymbol) ↔ ((¬ bad) × BadLength s)
+  pub two : (at : ℕ) → (a ≡ Err (NotAscii at)) ↔ ((¬ bad) × (¬ BadLength s) × FirstHigh s at)
 
 abbrev pub ReadGated : Type 0
 ReadGated = (f depth : ℕ) (s t : List ℕ) (room : ℕ) → Gated (BadBudget f depth) s (demangled f depth s t room)
@@ -180,15 +178,15 @@ NameGated = (s t : List ℕ) (n : ℕ) → Gated ⊥ s (name_answer s t n)
 
 -- Behind these, 8 exactly where the table is not well formed with a ParseResult as its last node, or has no such name; a name that there is is answered with an offset and counts of 0.
 abbrev pub WriteTables : Type 0
-WriteTables = (f depth : ℕ) (s t : List ℕ) (room : ℕ) → (written_alone f depth s t room ≡ BadTable) ↔ ((gate f depth s ≡ Open) × (rooted (length s) t ≡ false))
+WriteTables = (f depth : ℕ) (s t : List ℕ) (room : ℕ) → (written_alone f depth s t room ≡ Err BadTable) ↔ ((gate f depth s ≡ Ok tt) × (rooted (length s) t ≡ false))
 
 abbrev pub NameTables : Type 0
-NameTables = (s t : List ℕ) (n : ℕ) → (name_answer s t n ≡ BadTable) ↔ ((symbol_gate s ≡ Open) × (name_ok (length s) t n ≡ false))
+NameTables = (s t : List ℕ) (n : ℕ) → (name_answer s t n ≡ Err BadTable) ↔ ((symbol_gate s ≡ Ok tt) × (name_ok (length s) t n ≡ false))
 
 abbrev pub NameAccepts : Type 0
 NameAccepts =
     (s t : List ℕ) (n : ℕ) (c : Counts) →
-    (name_answer s t n ≡ Answered c) ↔ ((symbol_gate s ≡ Open) × (name_ok (length s) t n ≡ true) × (c ≡ record { offset = 0; depth = 0; nodes = 0; text = 0 }))
+    (name_answer s t n ≡ Ok c) ↔ ((symbol_gate s ≡ Ok tt) × (name_ok (length s) t n ≡ true) × (c ≡ record { offset = 0; depth = 0; nodes = 0; text = 0 }))
 
 -- NOTHING LEFT TO CHOOSE
 
@@ -220,13 +218,13 @@ BadDigits =
 -- Answered: the nodes, the text, all later cells and bytes unchanged. (The nodes are the derivation's, the text is that of its tree.)
 abbrev pub AnsweredLeaves : Type 0
 AnsweredLeaves =
-    (f depth : ℕ) (s t b : List ℕ) (c : Counts) → demangled f depth s t (length b) ≡ Answered c →
+    (f depth : ℕ) (s t b : List ℕ) (c : Counts) → demangled f depth s t (length b) ≡ Ok c →
     (n : ℕ) × ((own s).reply ≡ found n) × (table_after f depth s t ≡ cells_of (own_nodes s) ++ drop (c.nodes * 12) t) × (text_after f depth s t b ≡ own_text f s n ++ drop c.text b)
 
 -- Refusal 3: the nodes already counted, those of the grammar's own reading, are zero, the rest and the text buffer unchanged.
 abbrev pub SyntaxLeaves : Type 0
 SyntaxLeaves =
-    (f depth : ℕ) (s t b : List ℕ) (at : ℕ) → demangled f depth s t (length b) ≡ NoDerivation at →
+    (f depth : ℕ) (s t b : List ℕ) (at : ℕ) → demangled f depth s t (length b) ≡ Err (NoDerivation at) →
     (table_after f depth s t ≡ zeroed (own s).state.used t) × (text_after f depth s t b ≡ b)
 
 -- Refusals 4 and 5: zero are those counted before the first demand that passes its limit.
@@ -237,7 +235,7 @@ LimitLeaves =
 -- Refusal 6: the table as answered, the text buffer full with the beginning of the text.
 abbrev pub FullLeaves : Type 0
 FullLeaves =
-    (f depth : ℕ) (s t b : List ℕ) (c : Counts) → demangled f depth s t (length b) ≡ NoRoom c →
+    (f depth : ℕ) (s t b : List ℕ) (c : Counts) → demangled f depth s t (length b) ≡ Err (NoRoom c) →
     (n : ℕ) × ((own s).reply ≡ found n) × (table_after f depth s t ≡ cells_of (own_nodes s) ++ drop (c.nodes * 12) t) × (text_after f depth s t b ≡ take (length b) (own_text f s n))
 
 -- Refusals 1, 2 and 7: nothing changed.
@@ -249,10 +247,10 @@ abbrev pub AloneNothingLeft : Type 0
 AloneNothingLeft = (f depth : ℕ) (s t b : List ℕ) → says (7 ∷ 1 ∷ 2 ∷ 8 ∷ 4 ∷ []) (written_alone f depth s t (length b)) ≡ true → text_alone f depth s t b ≡ b
 
 abbrev pub AloneAnsweredLeaves : Type 0
-AloneAnsweredLeaves = (f depth : ℕ) (s t b : List ℕ) (c : Counts) → written_alone f depth s t (length b) ≡ Answered c → text_alone f depth s t b ≡ root_words f s t ++ drop c.text b
+AloneAnsweredLeaves = (f depth : ℕ) (s t b : List ℕ) (c : Counts) → written_alone f depth s t (length b) ≡ Ok c → text_alone f depth s t b ≡ root_words f s t ++ drop c.text b
 
 abbrev pub AloneFullLeaves : Type 0
-AloneFullLeaves = (f depth : ℕ) (s t b : List ℕ) (c : Counts) → written_alone f depth s t (length b) ≡ NoRoom c → text_alone f depth s t b ≡ take (length b) (root_words f s t)
+AloneFullLeaves = (f depth : ℕ) (s t b : List ℕ) (c : Counts) → written_alone f depth s t (length b) ≡ Err (NoRoom c) → text_alone f depth s t b ≡ take (length b) (root_words f s t)
 
 -- Reported counts are depth, nodes and text length for 0, for 6 the same with the buffer's length as text length (`Accepts`, `Spills`); else zeros.
 abbrev pub ZeroCounts : Type 0
@@ -262,19 +260,19 @@ ZeroCounts = (a : Answer) → says (1 ∷ 2 ∷ 3 ∷ 4 ∷ 5 ∷ 7 ∷ 8 ∷ []
 abbrev pub OldContents : Type 0
 OldContents =
     (f depth : ℕ) (s t t' : List ℕ) → nodes t ≡ nodes t' → ((room : ℕ) → demangled f depth s t room ≡ demangled f depth s t' room)
-    × ((b b' : List ℕ) (c : Counts) → length b ≡ length b' → demangled f depth s t (length b) ≡ Answered c → take c.text (text_after f depth s t b) ≡ take c.text (text_after f depth s t' b'))
+    × ((b b' : List ℕ) (c : Counts) → length b ≡ length b' → demangled f depth s t (length b) ≡ Ok c → take c.text (text_after f depth s t b) ≡ take c.text (text_after f depth s t' b'))
 
 -- DEMAND 2: the written grammar, and the text of its tree
 
 -- A symbol that the grammar derives is answered with its counts, and no other call is answered so.
 abbrev pub Accepts : Type 0
 Accepts =
-    (f depth : ℕ) (s t : List ℕ) (room : ℕ) (c : Counts) → (demangled f depth s t room ≡ Answered c) ↔ Accepted f depth s t room c
+    (f depth : ℕ) (s t : List ℕ) (room : ℕ) (c : Counts) → (demangled f depth s t room ≡ Ok c) ↔ Accepted f depth s t room c
 
 -- A symbol with no derivation is refused where the grammar's own reading ends, and no other call is refused so.
 abbrev pub Rejects : Type 0
 Rejects =
-    (f depth : ℕ) (s t : List ℕ) (room at : ℕ) → (demangled f depth s t room ≡ NoDerivation at) ↔ Rejected f depth s t at
+    (f depth : ℕ) (s t : List ℕ) (room at : ℕ) → (demangled f depth s t room ≡ Err (NoDerivation at)) ↔ Rejected f depth s t at
 
 -- A back-reference. What is said of a reading, whatever it is written on: `same` is when two nodes are equal, `shut` how a node is closed, `rec` how a part is read.
 abbrev pub Said : Type 1
@@ -383,100 +381,100 @@ ReferencesAlike = (f : ℕ) (x s : List ℕ) (a b c : Tree) (l : ℕ) → Halves
 -- An answer is the same with no less depth, nodes and room: the counts, the text and the nodes.
 abbrev pub MoreAnswered : Type 0
 MoreAnswered =
-    (f depth depth' : ℕ) (s t t' b b' : List ℕ) (c : Counts) → demangled f depth s t (length b) ≡ Answered c → depth ≤ depth' → depth' ≤ deepest_reading → nodes t ≤ nodes t' → length b ≤ length b' →
-    (demangled f depth' s t' (length b') ≡ Answered c) × (take c.text (text_after f depth' s t' b') ≡ take c.text (text_after f depth s t b))
+    (f depth depth' : ℕ) (s t t' b b' : List ℕ) (c : Counts) → demangled f depth s t (length b) ≡ Ok c → depth ≤ depth' → depth' ≤ deepest_reading → nodes t ≤ nodes t' → length b ≤ length b' →
+    (demangled f depth' s t' (length b') ≡ Ok c) × (take c.text (text_after f depth' s t' b') ≡ take c.text (text_after f depth s t b))
     × (take (c.nodes * 12) (table_after f depth' s t') ≡ take (c.nodes * 12) (table_after f depth s t))
 
 -- So is a refusal for want of a derivation.
 abbrev pub MoreRefused : Type 0
 MoreRefused =
-    (f depth depth' : ℕ) (s t t' : List ℕ) (room room' at : ℕ) → demangled f depth s t room ≡ NoDerivation at → depth ≤ depth' → depth' ≤ deepest_reading → nodes t ≤ nodes t' →
-    demangled f depth' s t' room' ≡ NoDerivation at
+    (f depth depth' : ℕ) (s t t' : List ℕ) (room room' at : ℕ) → demangled f depth s t room ≡ Err (NoDerivation at) → depth ≤ depth' → depth' ≤ deepest_reading → nodes t ≤ nodes t' →
+    demangled f depth' s t' room' ≡ Err (NoDerivation at)
 
 -- A text cut for room begins the text of a second call with no less depth, nodes and room.
 abbrev pub CutBegins : Type 0
 CutBegins =
-    (f depth depth' : ℕ) (s t t' b b' : List ℕ) (c : Counts) → demangled f depth s t (length b) ≡ NoRoom c → depth ≤ depth' → depth' ≤ deepest_reading → nodes t ≤ nodes t' → length b ≤ length b' →
+    (f depth depth' : ℕ) (s t t' b b' : List ℕ) (c : Counts) → demangled f depth s t (length b) ≡ Err (NoRoom c) → depth ≤ depth' → depth' ≤ deepest_reading → nodes t ≤ nodes t' → length b ≤ length b' →
     text_after f depth s t b ≡ take (length b) (text_after f depth' s t' b')
 
 -- 4 and 5 come exactly when, before any other, the grammar's own count passes that limit; 6 exactly when none does and the text of its tree is longer than the room.
 abbrev pub Blames : Type 0
 Blames =
-    (l : Limit) (f depth : ℕ) (s t : List ℕ) (room at : ℕ) → (demangled f depth s t room ≡ refusal (name l) at) ↔ Blamed l f depth s t at
+    (l : Limit) (f depth : ℕ) (s t : List ℕ) (room at : ℕ) → (demangled f depth s t room ≡ Err (refusal (name l) at)) ↔ Blamed l f depth s t at
 
 abbrev pub Spills : Type 0
 Spills =
-    (f depth : ℕ) (s t : List ℕ) (room : ℕ) (c : Counts) → (demangled f depth s t room ≡ NoRoom c) ↔ Spilled f depth s t room c
+    (f depth : ℕ) (s t : List ℕ) (room : ℕ) (c : Counts) → (demangled f depth s t room ≡ Err (NoRoom c)) ↔ Spilled f depth s t room c
 
 -- The reported counts suffice.
 abbrev pub Suffices : Type 0
 Suffices =
-    (f depth depth' : ℕ) (s t t' : List ℕ) (room room' : ℕ) (c : Counts) → demangled f depth s t room ≡ Answered c → c.depth ≤ depth' → depth' ≤ deepest_reading → c.nodes ≤ nodes t' → c.text ≤ room' →
-    demangled f depth' s t' room' ≡ Answered c
+    (f depth depth' : ℕ) (s t t' : List ℕ) (room room' : ℕ) (c : Counts) → demangled f depth s t room ≡ Ok c → c.depth ≤ depth' → depth' ≤ deepest_reading → c.nodes ≤ nodes t' → c.text ≤ room' →
+    demangled f depth' s t' room' ≡ Ok c
 
 -- One smaller, or smaller still, is refused by that limit's name: depth, nodes, room.
 abbrev pub TooShallow : Type 0
 TooShallow =
-    (f depth depth' : ℕ) (s t t' : List ℕ) (room room' : ℕ) (c : Counts) → demangled f depth s t room ≡ Answered c → depth' < c.depth → c.nodes ≤ nodes t' →
-    (at : ℕ) × (demangled f depth' s t' room' ≡ TooDeep at)
+    (f depth depth' : ℕ) (s t t' : List ℕ) (room room' : ℕ) (c : Counts) → demangled f depth s t room ≡ Ok c → depth' < c.depth → c.nodes ≤ nodes t' →
+    (at : ℕ) × (demangled f depth' s t' room' ≡ Err (TooDeep at))
 
 abbrev pub TooFew : Type 0
 TooFew =
-    (f depth depth' : ℕ) (s t t' : List ℕ) (room room' : ℕ) (c : Counts) → demangled f depth s t room ≡ Answered c → c.depth ≤ depth' → depth' ≤ deepest_reading → nodes t' < c.nodes →
-    (at : ℕ) × (demangled f depth' s t' room' ≡ NoNode at)
+    (f depth depth' : ℕ) (s t t' : List ℕ) (room room' : ℕ) (c : Counts) → demangled f depth s t room ≡ Ok c → c.depth ≤ depth' → depth' ≤ deepest_reading → nodes t' < c.nodes →
+    (at : ℕ) × (demangled f depth' s t' room' ≡ Err (NoNode at))
 
 abbrev pub TooSmall : Type 0
 TooSmall =
-    (f depth depth' : ℕ) (s t t' : List ℕ) (room room' : ℕ) (c : Counts) → demangled f depth s t room ≡ Answered c → c.depth ≤ depth' → depth' ≤ deepest_reading → c.nodes ≤ nodes t' → room' < c.text →
-    demangled f depth' s t' room' ≡ NoRoom (counts_in room' c)
+    (f depth depth' : ℕ) (s t t' : List ℕ) (room room' : ℕ) (c : Counts) → demangled f depth s t room ≡ Ok c → c.depth ≤ depth' → depth' ≤ deepest_reading → c.nodes ≤ nodes t' → room' < c.text →
+    demangled f depth' s t' room' ≡ Err (NoRoom (counts_in room' c))
 
 -- The writer alone owes the same for depth and text room, on one unchanged table: exactly when it answers, refuses 4 and refuses 6;
 abbrev pub AloneAccepts : Type 0
 AloneAccepts =
     (f depth : ℕ) (s t : List ℕ) (room : ℕ) (c : Counts) →
-    (written_alone f depth s t room ≡ Answered c) ↔ (Rooted f depth s t × (root_height t ≤ depth) × (length (root_words f s t) ≤ room) × (c ≡ root_counts f s t))
+    (written_alone f depth s t room ≡ Ok c) ↔ (Rooted f depth s t × (root_height t ≤ depth) × (length (root_words f s t) ≤ room) × (c ≡ root_counts f s t))
 
 abbrev pub AloneBlames : Type 0
 AloneBlames =
     (f depth : ℕ) (s t : List ℕ) (room at : ℕ) →
-    (written_alone f depth s t room ≡ TooDeep at) ↔ (Rooted f depth s t × (depth < root_height t) × (at ≡ 0))
+    (written_alone f depth s t room ≡ Err (TooDeep at)) ↔ (Rooted f depth s t × (depth < root_height t) × (at ≡ 0))
 
 abbrev pub AloneSpills : Type 0
 AloneSpills =
     (f depth : ℕ) (s t : List ℕ) (room : ℕ) (c : Counts) →
-    (written_alone f depth s t room ≡ NoRoom c) ↔ (Rooted f depth s t × (root_height t ≤ depth) × (room < length (root_words f s t)) × (c ≡ counts_in room (root_counts f s t)))
+    (written_alone f depth s t room ≡ Err (NoRoom c)) ↔ (Rooted f depth s t × (root_height t ≤ depth) × (room < length (root_words f s t)) × (c ≡ counts_in room (root_counts f s t)))
 
 -- more changes no word, and a cut text begins the whole;
 abbrev pub AloneMoreAnswered : Type 0
 AloneMoreAnswered =
-    (f depth depth' : ℕ) (s t b b' : List ℕ) (c : Counts) → written_alone f depth s t (length b) ≡ Answered c → depth ≤ depth' → depth' ≤ deepest_reading → length b ≤ length b' →
-    (written_alone f depth' s t (length b') ≡ Answered c) × (take c.text (text_alone f depth' s t b') ≡ take c.text (text_alone f depth s t b))
+    (f depth depth' : ℕ) (s t b b' : List ℕ) (c : Counts) → written_alone f depth s t (length b) ≡ Ok c → depth ≤ depth' → depth' ≤ deepest_reading → length b ≤ length b' →
+    (written_alone f depth' s t (length b') ≡ Ok c) × (take c.text (text_alone f depth' s t b') ≡ take c.text (text_alone f depth s t b))
 
 abbrev pub AloneCutBegins : Type 0
 AloneCutBegins =
-    (f depth depth' : ℕ) (s t b b' : List ℕ) (c : Counts) → written_alone f depth s t (length b) ≡ NoRoom c → depth ≤ depth' → depth' ≤ deepest_reading → length b ≤ length b' →
+    (f depth depth' : ℕ) (s t b b' : List ℕ) (c : Counts) → written_alone f depth s t (length b) ≡ Err (NoRoom c) → depth ≤ depth' → depth' ≤ deepest_reading → length b ≤ length b' →
     text_alone f depth s t b ≡ take (length b) (text_alone f depth' s t b')
 
 -- the reported counts suffice, and less is refused by that limit's name.
 abbrev pub AloneSuffices : Type 0
 AloneSuffices =
-    (f depth depth' : ℕ) (s t : List ℕ) (room room' : ℕ) (c : Counts) → written_alone f depth s t room ≡ Answered c → c.depth ≤ depth' → depth' ≤ deepest_reading → c.text ≤ room' →
-    written_alone f depth' s t room' ≡ Answered c
+    (f depth depth' : ℕ) (s t : List ℕ) (room room' : ℕ) (c : Counts) → written_alone f depth s t room ≡ Ok c → c.depth ≤ depth' → depth' ≤ deepest_reading → c.text ≤ room' →
+    written_alone f depth' s t room' ≡ Ok c
 
 abbrev pub AloneTooShallow : Type 0
 AloneTooShallow =
-    (f depth depth' : ℕ) (s t : List ℕ) (room room' : ℕ) (c : Counts) → written_alone f depth s t room ≡ Answered c → depth' < c.depth → written_alone f depth' s t room' ≡ TooDeep 0
+    (f depth depth' : ℕ) (s t : List ℕ) (room room' : ℕ) (c : Counts) → written_alone f depth s t room ≡ Ok c → depth' < c.depth → written_alone f depth' s t room' ≡ Err (TooDeep 0)
 
 abbrev pub AloneTooSmall : Type 0
 AloneTooSmall =
-    (f depth depth' : ℕ) (s t : List ℕ) (room room' : ℕ) (c : Counts) → written_alone f depth s t room ≡ Answered c → c.depth ≤ depth' → depth' ≤ deepest_reading → room' < c.text →
-    written_alone f depth' s t room' ≡ NoRoom (counts_in room' c)
+    (f depth depth' : ℕ) (s t : List ℕ) (room room' : ℕ) (c : Counts) → written_alone f depth s t room ≡ Ok c → c.depth ≤ depth' → depth' ≤ deepest_reading → room' < c.text →
+    written_alone f depth' s t room' ≡ Err (NoRoom (counts_in room' c))
 
 -- The reading call writes what the writer alone writes on its table: the same answer, at offset 0, and the same text.
 abbrev pub AloneAgrees : Type 0
 AloneAgrees =
-    (f depth : ℕ) (s t b : List ℕ) (c : Counts) → demangled f depth s t (length b) ≡ Answered c →
-    (written_alone f depth s (take (c.nodes * 12) (table_after f depth s t)) (length b) ≡ Answered (record { offset = 0; depth = c.depth; nodes = c.nodes; text = c.text }))
+    (f depth : ℕ) (s t b : List ℕ) (c : Counts) → demangled f depth s t (length b) ≡ Ok c →
+    (written_alone f depth s (take (c.nodes * 12) (table_after f depth s t)) (length b) ≡ Ok (record { offset = 0; depth = c.depth; nodes = c.nodes; text = c.text }))
     × (text_alone f depth s (take (c.nodes * 12) (table_after f depth s t)) b ≡ text_after f depth s t b)
 
 -- ALL OF THEM

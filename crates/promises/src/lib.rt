@@ -3,7 +3,7 @@
 
 ghost use Rattle.promises.specs.Promises.{Promises, Demangles, Writes, Names, Parts};
 
-use farthingmoss::Answer;
+use farthingmoss::{Counts, Refused};
 
 // Proved only where every statement has a proof.
 pub fn all_kept()
@@ -11,19 +11,31 @@ pub fn all_kept()
 {}
 
 // The calls promise what the statements say of them: each is proved only where the call's own promise is as strong.
-pub fn reads(symbol: &[u8], flags: u32, depth: u32, table: &mut [u32], text: &mut [u8]) -> Answer
+pub fn reads(
+    symbol: &[u8],
+    flags: u32,
+    depth: u32,
+    table: &mut [u32],
+    text: &mut [u8],
+) -> Result<Counts, Refused>
     ensures { Demangles flags depth symbol.now table.old text.old result table.new text.new }
 {
     farthingmoss::demangle(symbol, flags, depth, table, text)
 }
 
-pub fn writes(symbol: &[u8], flags: u32, depth: u32, table: &[u32], text: &mut [u8]) -> Answer
+pub fn writes(
+    symbol: &[u8],
+    flags: u32,
+    depth: u32,
+    table: &[u32],
+    text: &mut [u8],
+) -> Result<Counts, Refused>
     ensures { Writes flags depth symbol.now table.entry.now text.old result table.exit.now text.new }
 {
     farthingmoss::write_table(symbol, flags, depth, table, text)
 }
 
-pub fn asks(symbol: &[u8], table: &[u32], n: u64) -> Answer
+pub fn asks(symbol: &[u8], table: &[u32], n: u64) -> Result<Counts, Refused>
     ensures { Names symbol.now table.entry.now n result table.exit.now }
 {
     farthingmoss::name_question(symbol, table, n)

@@ -3,25 +3,7 @@
 
 ghost use Rattle.std.specs.Prelude.{◌≡◌};
 ghost use Rattle.reader.specs.Whole.{answered, table_left};
-ghost use Rattle.reader_export.specs.Reported.{number_of, reported};
-
-use grammar::Refusal;
-use reader::Whole;
-
-// A refusal's number; 0 for an answer, and 1 where nothing is read.
-fn number_of(a: Whole) -> u64
-    ensures { result ≡ number_of a }
-{
-    match a {
-        Whole::Outside => 1,
-        Whole::Root(_) => 0,
-        Whole::Refused(why) => match why {
-            Refusal::Syntax => 3,
-            Refusal::Deep => 4,
-            Refusal::Full => 5,
-        },
-    }
-}
+ghost use Rattle.reader_export.specs.Reported.{reported};
 
 // Reads a symbol within a depth: number, bytes consumed, depth and nodes go into the first four places of `out`.
 #[unsafe(no_mangle)]
@@ -38,10 +20,11 @@ pub extern "C" fn farthingmoss_reading(
     if out.len() < 4 {
         return;
     }
-    let a = r.answer;
-    let st = r.state;
-    out[0] = number_of(a);
-    out[1] = st.at as u64;
-    out[2] = st.deep as u64;
-    out[3] = st.used as u64;
+    out[0] = match r.answer {
+        Ok(_) => 0,
+        Err(why) => why.number() as u64,
+    };
+    out[1] = r.state.at as u64;
+    out[2] = r.state.deep as u64;
+    out[3] = r.state.used as u64;
 }

@@ -4,24 +4,10 @@
 
 ghost use Rattle.std.specs.Prelude.{◌≤◌, length, IfOk};
 
-use grammar::Refusal;
-use reader::Whole;
 use std::io;
 use std::io::{Read, Stdin, Stdout, Write};
 
 const CELLS: usize = 120_000;
-
-fn number_of(a: Whole) -> u64 {
-    match a {
-        Whole::Outside => 1,
-        Whole::Root(_) => 0,
-        Whole::Refused(why) => match why {
-            Refusal::Syntax => 3,
-            Refusal::Deep => 4,
-            Refusal::Full => 5,
-        },
-    }
-}
 
 // A decimal digit's value, and 0 for any other byte.
 fn digit_value(c: u8) -> usize
@@ -48,7 +34,10 @@ fn run_line(out: &mut Stdout, line: &[u8], table: &mut [u32]) -> io::Result<()> 
     }
     let end = line.len();
     let r = reader::read(&line[8..end], &mut table[..cells], depth as u16);
-    let number = number_of(r.answer);
+    let number = match r.answer {
+        Ok(_) => 0,
+        Err(why) => why.number(),
+    };
     let at = r.state.at;
     out.write_all(line)?;
     write!(out, "\t{number}\t{at}\n")

@@ -1,30 +1,26 @@
 -- A writing from the beginning of the buffer: what it leaves, and what it answers. Assumes nothing.
 use Prim.Native.Nat.{ℕ, ◌≤◌, ◌<◌}
-use mathlib.Core.Path.{◌≡◌, sym, ap, ◌∙◌}
+use mathlib.Core.Path.{◌≡◌, ap}
 use mathlib.Core.List.{List}
-use native.Mathlib.Decide.{dec_le}
 use native.Mathlib.Omega.{arith}
 use lib.ListN.{length}
+use Rattle.std.specs.Prelude.{None, Some}
 use borrow.Author.Tests.{le-leb, lt-leb}
-use Rattle.scan.specs.Bytes.{pick}
 use Rattle.text.specs.Emit.{Text, Wrote, cut, last_at, last_of}
 use Rattle.text.proofs.Room.{exact}
 use Rattle.writer.specs.Written.{written}
-use Rattle.writer.specs.declared.Written.TheVariants.{Whole, Cut}
 
 module _ {T : Text} {b b' : List ℕ} {o : ℕ} (w : Wrote T b 0 b' o) where
   pub ends-text : b' ≡ cut b (T 256)
   unfolding last_at last_of
   ends-text = w.buf
 
-  pub ends-cut : length b < o → Cut ≡ written (length b) (T 256)
+  pub ends-cut : length b < o → None ≡ written (length b) (T 256)
   unfolding written
-  ends-cut h = go (dec_le (length (T 256)) (length b))
-    where
-      go : Dec (length (T 256) ≤ length b) → Cut ≡ written (length b) (T 256)
-      go (yes l) = absurd (omega (arith, h, (exact w).0.1 l))
-      go (no n) = sym (ap (λ e. pick e (Whole (length (T 256))) Cut) (lt-leb (length (T 256)) (length b) (omega (arith, n))))
+  ends-cut h =
+      let fits : length (T 256) ≤ length b → o ≤ length b = (exact w).0.1 in
+      rw (lt-leb (length (T 256)) (length b) (grind arith))
 
-  pub ends-whole : o ≤ length b → Whole o ≡ written (length b) (T 256)
+  pub ends-whole : o ≤ length b → Some o ≡ written (length b) (T 256)
   unfolding written
-  ends-whole h = ap Whole ((exact w).1 h) ∙ sym (ap (λ e. pick e (Whole (length (T 256))) Cut) (le-leb (length (T 256)) (length b) ((exact w).0.0 h)))
+  ends-whole h = rw (le-leb (length (T 256)) (length b) ((exact w).0.0 h)) (ap Some ((exact w).1 h))

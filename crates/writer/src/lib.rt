@@ -35,22 +35,16 @@ use text::decimal::put_decimal;
 use text::spaces::put_space;
 use text::words::put_word;
 
-#[derive(Clone, Copy)]
-pub enum Written {
-    Whole(usize),
-    Cut,
-}
-
-// The text of the ParseResult that r names.
-pub fn write(table: &[u32], symbol: &[u8], text: &mut [u8], r: usize, flags: u32) -> Written
+// The text of the ParseResult that r names, and its length; None where it is cut.
+pub fn write(table: &[u32], symbol: &[u8], text: &mut [u8], r: usize, flags: u32) -> Option<usize>
     ensures { (result ≡ written (length text.old) (text_of flags table.now symbol.now r))
         × (text.new ≡ cut text.old (text_of flags table.now symbol.now r)) }
 {
     let o = parsed(table, symbol, text, 0, r, flags);
     if text.len() < o {
-        return Written::Cut;
+        return None;
     }
-    Written::Whole(o)
+    Some(o)
 }
 
 // A ParseResult.

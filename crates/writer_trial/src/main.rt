@@ -4,12 +4,9 @@
 
 ghost use Rattle.std.specs.Prelude.{◌≤◌, ◌+◌, length, IfOk};
 
-use grammar::Refusal;
-use reader::Whole;
 use scan::limits::DEEPEST_READING;
 use std::io;
 use std::io::{Read, Stdin, Stdout, Write};
-use writer::Written;
 
 const CELLS: usize = 120_000;
 
@@ -46,24 +43,12 @@ fn clear(text: &mut [u8]) {
 }
 
 // How much of the buffer is shown.
-fn shown(room: usize, w: Written) -> usize
+fn shown(room: usize, w: Option<usize>) -> usize
     ensures { result ≤ room }
 {
     match w {
-        Written::Whole(n) => {
-            if room <= n {
-                return room;
-            }
-            if room - n <= 3 { room } else { n + 3 }
-        }
-        Written::Cut => room,
-    }
-}
-
-fn number_of(w: Written) -> u64 {
-    match w {
-        Written::Whole(_) => 0,
-        Written::Cut => 6,
+        Some(n) => room.min(n.saturating_add(3)),
+        None => room,
     }
 }
 
@@ -76,17 +61,9 @@ fn run_text(
     flags: u32,
 ) -> io::Result<()> {
     let w = writer::write(table, symbol, text, root as usize + 1, flags);
-    let number = number_of(w);
+    let number = if w.is_some() { 0 } else { 6 };
     write!(out, "{number}\t")?;
     out.write_all(&text[..shown(text.len(), w)])
-}
-
-fn refusal_number(why: Refusal) -> u64 {
-    match why {
-        Refusal::Syntax => 3,
-        Refusal::Deep => 4,
-        Refusal::Full => 5,
-    }
 }
 
 fn run_symbol(
@@ -97,12 +74,10 @@ fn run_symbol(
     flags: u32,
 ) -> io::Result<()> {
     let r = reader::read(symbol, table, DEEPEST_READING);
-    let a = r.answer;
-    match a {
-        Whole::Outside => out.write_all(b"1"),
-        Whole::Root(n) => run_text(out, symbol, table, text, n, flags),
-        Whole::Refused(why) => {
-            let number = refusal_number(why);
+    match r.answer {
+        Ok(root) => run_text(out, symbol, table, text, root, flags),
+        Err(why) => {
+            let number = why.number();
             write!(out, "{number}")
         }
     }

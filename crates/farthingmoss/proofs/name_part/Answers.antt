@@ -1,44 +1,37 @@
 -- Assumes nothing.
-use mathlib.Core.Path.{refl, sym, ◌∙◌}
-use Rattle.farthingmoss.specs.Call.{name_of}
+use mathlib.Core.Bool.{Bool, true, false}
+use mathlib.Core.List.{List, []}
+use mathlib.Core.Path.{◌≡◌, refl, sym, ap, ◌∙◌}
+use lib.ListN.{length}
+use Prim.Native.Nat.{ℕ}
+use Rattle.std.specs.Prelude.{Ok, Err, is_err}
+use Rattle.scan.specs.Bytes.{pick}
+use Rattle.gates.specs.Gates.{Gate, symbol_gate}
+use Rattle.farthingmoss.specs.declared.Counts.{Counts}
+use Rattle.farthingmoss.specs.declared.Refused.TheVariants.{BadTable}
+use Rattle.farthingmoss.specs.Call.{Answer, through, kept, name_ok, name_answer, name_of}
 use Rattle.farthingmoss.proofs.name_part.Goals as goal
 
-pub returns-then-is_name : goal.returns-then-is_name
-unfolding name_of
-returns-then-is_name c =
-    rw ((sym c.symbol_gate-g.ensures) ∙ c.in-Open.is, (sym c.is_name.ensures) ∙ c.if-is_name.true, sym c.cell.ensures.0, sym c.cell-then-is_name.ensures.0) (record {
-      result_value = c.part_of.ensures;
-      table_value = refl;
-    })
+module _ (z : Counts) (p : List ℕ) where
+  refused-empty : (g : Gate) (is : Bool) → is_err (through g (pick is (Ok z) (Err BadTable))) ≡ true → [] ≡ kept g (pick is p []) []
+  refused-empty (Ok x) true e = cc
+  refused-empty (Ok x) false e = refl
+  refused-empty (Err g) is e = refl
 
-pub returns-else-is_name : goal.returns-else-is_name
-unfolding name_of
-returns-else-is_name c =
-    rw ((sym c.symbol_gate-g.ensures) ∙ c.in-Open.is, (sym c.is_name.ensures) ∙ c.if-is_name.false) (record {
-      result_value = refl;
-      table_value = refl;
-    })
+  asked : (g : Gate) (is : Bool) → is_err (through g (pick is (Ok z) (Err BadTable))) ≡ false → p ≡ kept g (pick is p []) []
+  asked (Ok x) true e = refl
+  asked (Ok x) false e = cc
+  asked (Err g) is e = cc
 
-pub returns-in-Call : goal.returns-in-Call
-unfolding name_of
-returns-in-Call c =
-    rw ((sym c.symbol_gate-g.ensures) ∙ c.in-Call.is) (record {
-      result_value = refl;
-      table_value = refl;
-    })
+pub returns-then-is_err-clause-result_value : goal.returns-then-is_err-clause-result_value
+unfolding name_answer name_of
+returns-then-is_err-clause-result_value c =
+    refused-empty _ _ (symbol_gate c.args.symbol.now) (name_ok (length c.args.symbol.now) c.args.table.now c.args.n)
+    (ap (λ (a : Answer). is_err a) (sym c.name_question.ensures.value) ∙ sym c.is_err.ensures.value ∙ c.if-is_err.true)
 
-pub returns-in-Symbol : goal.returns-in-Symbol
-unfolding name_of
-returns-in-Symbol c =
-    rw ((sym c.symbol_gate-g.ensures) ∙ c.in-Symbol.is) (record {
-      result_value = refl;
-      table_value = refl;
-    })
-
-pub returns-in-High : goal.returns-in-High
-unfolding name_of
-returns-in-High c =
-    rw ((sym c.symbol_gate-g.ensures) ∙ c.in-High.is) (record {
-      result_value = refl;
-      table_value = refl;
-    })
+pub returns-clause-result_value : goal.returns-clause-result_value
+unfolding name_answer name_of
+returns-clause-result_value c =
+    (rw (c.cell.ensures.0, c.cell-2.ensures.0) at c.part_of.ensures)
+    ∙ asked _ _ (symbol_gate c.args.symbol.now) (name_ok (length c.args.symbol.now) c.args.table.now c.args.n)
+    (ap (λ (a : Answer). is_err a) (sym c.name_question.ensures.value) ∙ sym c.is_err.ensures.value ∙ c.if-is_err.false)
