@@ -183,7 +183,6 @@ newline_missed i at e = no-newline (drop at i) (sym (e ∙ ap (position (λ c. c
 -- the rest of the input, moved to its beginning
 pub moved_front : (i i' : List ℕ) (at r : ℕ) → i' ≡ copy_within i at (at + r) 0 → at + r ≤ length i → take r i' ≡ take r (drop at i)
 moved_front i i' at r e h =
-    let same : at + r - at ≡ 0 + r = omega arith in
+    let same : at + r - at ≡ r = omega arith in
     let whole : r ≡ 0 + r = omega arith in
-    ap (take r) e ∙ ap (λ k. take r (paste i 0 (drop at i) k)) same ∙ ap (λ k. take k (paste i 0 (drop at i) (0 + r))) whole
-    ∙ take-paste i 0 (drop at i) (0 + r) (omega arith) (omega (arith, length-drop at i)) ∙ ap (λ k. take k (drop at i)) (sym whole)
+    ap (take r) e ∙ ap (λ k. take r (paste i 0 (drop at i) k)) same ∙ ap (λ k. take k (paste i 0 (drop at i) r)) whole ∙ take-paste i 0 (drop at i) r (omega arith) (omega (arith, length-drop at i))
