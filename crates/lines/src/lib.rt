@@ -38,13 +38,7 @@ fn share(rest: usize, full: bool) -> usize
 }
 
 // Answers the lines that end in the bytes kept and those that came after them, and keeps the rest.
-pub fn step(
-    input: &mut [u8],
-    came: usize,
-    out: &mut [u8],
-    scratch: &mut Scratch,
-    w: Work,
-) -> Work
+pub fn step(input: &mut [u8], came: usize, out: &mut [u8], scratch: &mut Scratch, w: Work) -> Work
     requires came_in_bounds { w.kept + came ≤ length input.old }
     requires longest_answer_in_bounds { w.used + longest_answer ≤ length out.old }
     ensures steps { Steps (take w.kept input.old) (take w.used out.old) (take came (drop w.kept input.old)) (take result.kept input.new) (take result.used out.new) }

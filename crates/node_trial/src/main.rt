@@ -86,7 +86,17 @@ const NODES: [[u32; 9]; COUNT] = [
 fn fill(table: &mut [u32]) {
     for (n, row) in NODES.iter().enumerate() {
         let [kind, height, a, b, c, p, q, r, s] = *row;
-        let x = Node { kind, height, a, b, c, p, q, r, s };
+        let x = Node {
+            kind,
+            height,
+            a,
+            b,
+            c,
+            p,
+            q,
+            r,
+            s,
+        };
         node::put_node(table, n, x);
     }
 }
