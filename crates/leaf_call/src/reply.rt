@@ -7,7 +7,7 @@ use scan::cursor::{Leaf, Span};
 use strings::encoded::Encoded;
 
 // The scope's number (0 or 3; 7 for no such leaf), the bytes taken by then, the value, and where a string's characters start.
-#[derive(Clone, Copy)]
+#[derive(Clone, Copy, PartialEq, Eq)]
 pub struct Reply {
     pub number: u32,
     pub taken: usize,

@@ -2,13 +2,14 @@
 use Prim.Native.Nat.{ℕ, suc, ◌+◌, ◌-◌, ◌≤◌, ◌<◌}
 use mathlib.Core.Bool.{Bool, true, false}
 use mathlib.Core.Path.{◌≡◌, refl, sym, ap, ap₂, ◌∙◌}
-use mathlib.Core.List.{List, ◌++◌, append-nil, append_assoc}
+use mathlib.Core.List.{List, [], ◌∷◌, ◌++◌, append-nil, append_assoc}
 use native.Mathlib.Decide.{dec_le}
 use native.Mathlib.Omega.{arith}
 use borrow.Author.Tests.{ltb-true, ltb-false}
-use lib.Dec.{ltb}
+use lib.Dec.{ltb, eqb}
 use lib.ListN.{length, take, drop, set, get_or, length-append, length-drop, length-take}
-use lib.Seq.{length-take-le, drop-drop, get_or-append-add, get_or-drop, take_at, drop_at, take_all, take-take, take-add}
+use lib.Seq.{paste, length-take-le, drop-drop, get_or-append-add, get_or-drop, take_at, drop_at, take_all, take-take, take-add}
+use Rattle.scan.specs.Bytes.{pick}
 use Rattle.text.specs.Emit.{Wrote, lit}
 use Rattle.text.proofs.Cut.{length_cut, take-cut}
 use Rattle.text.proofs.Seq.{place-fits}
@@ -17,6 +18,14 @@ use Rattle.answer_line.specs.Line.{line_of}
 use Rattle.answer_line.proofs.Answers.{line-short}
 use Rattle.lines.specs.Output.{newline_at, Open, output}
 use Rattle.lines.specs.Steps.{Steps, Goes, Share}
+use Rattle.std.specs.Prelude.{Some, None, ◌==◌, Option, cond, nat_lt, position}
+use Rattle.std.specs.List.{position_or_len, copy_within}
+use Rattle.std.proofs.lemmas.Bool.{cond-true, lt-ltb}
+use Rattle.std.proofs.lemmas.List.Edits.{take-paste}
+use Rattle.std.proofs.lemmas.List.{take_rest}
+use Rattle.std.proofs.lemmas.List.Quantifiers.{position-Some}
+use Rattle.std.proofs.lemmas.List.Recursion.{is_position_or_len}
+use Rattle.std.proofs.lemmas.List.Sums.{position_or_len_is}
 use Rattle.lines.proofs.Splits.{answers-first, last_line, no_line, cut_short, open-take}
 use Rattle.answer_line.specs.Line.{longest_answer}
 use Rattle.lines.specs.Steps.{kept_most}
@@ -78,26 +87,6 @@ module _ (s : List ℕ) {b b' : List ℕ} {o o' : ℕ} (v : Wrote (lit (line_of 
 pub none_owes : (s l : List ℕ) → length s ≡ 0 → l ≡ l ++ output s
 none_owes s l n = sym (ap (λ x. l ++ x) (no_line s n) ∙ append-nil l)
 
--- the rest of the input, moved to its beginning
-module _ (t : List ℕ) (from : ℕ) where
-  pub move-more : (l : List ℕ) (i : ℕ) → l ≡ over t (drop from t) i → from + i < length t → set l i (get_or l (from + i) 0) ≡ over t (drop from t) (i + 1)
-  move-more l i e h = ap₂ (λ x y. set x i y) e (ap (λ x. get_or x (from + i) 0) e ∙ byte) ∙ over-more t (drop from t) i (omega arith) (omega (arith, length-drop from t))
-    where
-      p : List ℕ
-      p = take i (drop from t)
-
-      place : from + i ≡ length p + from
-      place = omega (arith, length-take-le i (drop from t) (omega (arith, length-drop from t)))
-
-      turned : i + from ≡ from + i
-      turned = omega arith
-
-      byte : get_or (over t (drop from t) i) (from + i) 0 ≡ get_or (drop from t) i 0
-      byte = ap (λ n. get_or (p ++ drop i t) n 0) place ∙ get_or-append-add p (drop i t) from 0 ∙ get_or-drop i t from 0 ∙ ap (λ n. get_or t n 0) turned ∙ sym (get_or-drop from t i 0)
-
-  pub move_all : (l : List ℕ) (i count : ℕ) → l ≡ over t (drop from t) i → i ≡ count → from + count ≤ length t → take count l ≡ take count (drop from t)
-  move_all l i count e z h = ap (take count) (e ∙ ap (over t (drop from t)) z) ∙ take_at (take count (drop from t)) (drop count t) count (length-take-le count (drop from t) (omega (arith, length-drop from t)))
-
 pub piece-within : {k n : ℕ} (i : List ℕ) → n ≤ length i → k ≤ length (take n i) → k ≤ n
 piece-within {k} {n} i h l = omega (arith, length-take-le n i h)
 
@@ -148,3 +137,52 @@ room_waits m l used put e h f = omega (arith, ltb-true (m - put) longest_answer 
 
 pub never : {A : Type 0} → false ≡ true → A
 never e = let z : ◌≡◌ {A = ℕ} 0 1 = cc in absurd (omega arith)
+
+-- `position` finds the first newline, where there is one
+newline_place : (s : List ℕ) → newline_at s ≡ position_or_len (λ c. c == 10) s
+unfolding newline_at
+newline_place = is_position_or_len newline_at (λ c. c == 10) refl (λ x xs. by (eqb x 10) (newline_at xs))
+  where
+    by : (b : Bool) (n : ℕ) → pick b 0 (suc n) ≡ cond b 0 (1 + n)
+    by true n = refl
+    by false n = omega arith
+
+first-newline : (s : List ℕ) (n : ℕ) → position (λ c. c == 10) s ≡ Some n → (newline_at s ≡ n) × (n < length s)
+first-newline s n e =
+    let h = position-Some (λ c. c == 10) s n 0 e in
+    (newline_place s ∙ position_or_len_is (λ c. c == 10) s n 0 (omega (arith, h.0)) h.2 (λ _. h.1), h.0)
+
+newline-within : (s : List ℕ) → newline_at s ≤ length s
+unfolding newline_at
+newline-within [] = omega arith
+newline-within (c ∷ s) = by (eqb c 10) (newline-within s)
+  where
+    by : (b : Bool) → newline_at s ≤ length s → pick b 0 (suc (newline_at s)) ≤ suc (length s)
+    by true h = omega arith
+    by false h = omega arith
+
+no-newline : (s : List ℕ) → position (λ c. c == 10) s ≡ None → Open s
+no-newline s e = by (dec_le (length s) (newline_at s))
+  where
+    k : ℕ
+    k = position_or_len (λ c. c == 10) s
+
+    by : Dec (length s ≤ newline_at s) → newline_at s ≡ length s
+    by (yes h) = omega (arith, h, newline-within s)
+    by (no h) =
+        let q : nat_lt k (length s) ≡ true = lt-ltb k (length s) (omega (arith, h, newline_place s)) in
+        let z : ◌≡◌ {A = Option ℕ} (Some k) None = sym (cond-true (nat_lt k (length s)) (Some k) None q) ∙ e in absurd (cc)
+
+-- the same in the input from a place on
+pub newline_found : (i : List ℕ) (at n : ℕ) → Some n ≡ position (λ c. c == 10) (take (length i - at) (drop at i)) → (newline_at (drop at i) ≡ n) × (n < length (drop at i))
+newline_found i at n e = first-newline (drop at i) n (sym (e ∙ ap (position (λ c. c == 10)) (take_rest i at)))
+
+pub newline_missed : (i : List ℕ) (at : ℕ) → None ≡ position (λ c. c == 10) (take (length i - at) (drop at i)) → Open (drop at i)
+newline_missed i at e = no-newline (drop at i) (sym (e ∙ ap (position (λ c. c == 10)) (take_rest i at)))
+
+-- the rest of the input, moved to its beginning
+pub moved_front : (i i' : List ℕ) (at r : ℕ) → i' ≡ copy_within i at (at + r) 0 → at + r ≤ length i → take r i' ≡ take r (drop at i)
+moved_front i i' at r e h =
+    let same : at + r - at ≡ r = omega arith in
+    let whole : r ≡ 0 + r = omega arith in
+    ap (take r) e ∙ ap (λ k. take r (paste i 0 (drop at i) k)) same ∙ ap (λ k. take k (paste i 0 (drop at i) r)) whole ∙ take-paste i 0 (drop at i) r (omega arith) (omega (arith, length-drop at i))

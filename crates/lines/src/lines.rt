@@ -1,9 +1,10 @@
 // The input in lines.
-ghost use Rattle.std.specs.Prelude.{◌≡◌, ◌++◌, ◌+◌, ◌≤◌, length, take, drop};
-ghost use Rattle.lines.specs.Output.{newline_at, Open, output};
+ghost use Rattle.std.specs.Prelude.{◌≡◌, ◌++◌, ◌+◌, ◌≤◌, ◌==◌, length, take, position};
+ghost use Rattle.lines.specs.Output.{Open, output};
 ghost use Rattle.lines.specs.Steps.{Goes};
-ghost use Rattle.answer_line.specs.Line.{line_cells, line_text, longest_answer};
+ghost use Rattle.answer_line.specs.Line.{longest_answer};
 
+use crate::Scratch;
 use answer_line::{LONGEST_ANSWER, answer_line};
 
 // Up to where the lines are answered, and how many bytes of the output wait.
@@ -13,63 +14,40 @@ pub struct Place {
     pub used: usize,
 }
 
-// Where the line that starts here ends: its newline, or the end of the input.
-fn line_end(input: &[u8], from: usize) -> usize
-    requires { from ≤ length input.now }
-    ensures { (from ≤ result) × (result ≤ length input.now) × (result ≡ from + newline_at (drop from input.now)) }
+// Where the first line ends, if a newline ends it.
+fn line_end(rest: &[u8]) -> Option<usize>
+    ensures { result ≡ position (λ c. c == 10) rest.now }
 {
-    let mut i = from;
-    while i < input.len() {
-        if input[i] == b'\n' {
-            break;
-        }
-        i += 1;
-    }
-    i
+    rest.iter().position(|c| *c == b'\n')
 }
 
 // Answers the lines that end in the input, as long as there is room for one more.
-pub fn answer_lines(
-    input: &[u8],
-    out: &mut [u8],
-    used: usize,
-    table: &mut [u32],
-    text: &mut [u8],
-) -> Place
+pub fn answer_lines(input: &[u8], out: &mut [u8], used: usize, scratch: &mut Scratch) -> Place
     requires longest_answer_in_bounds { used + longest_answer ≤ length out.old }
-    requires table_len { length table.old ≡ line_cells }
-    requires text_len { length text.old ≡ line_text }
     ensures { Goes input.now out.old used out.new result.at result.used }
 {
     let mut at = 0;
     let mut put = used;
     while LONGEST_ANSWER <= out.len() - put {
-        let end = line_end(input, at);
-        if input.len() <= end {
+        let Some(n) = line_end(&input[at..]) else {
             break;
-        }
-        put = answer_line(&input[at..end], out, put, table, text);
+        };
+        let end = at + n;
+        let line = &input[at..end];
+        put = answer_line(line, out, put, &mut scratch.table, &mut scratch.text);
         at = end + 1;
     }
-    Place { at: at, used: put }
+    Place { at, used: put }
 }
 
 // Answers a rest that no newline ends.
-pub fn answer_rest(
-    rest: &[u8],
-    out: &mut [u8],
-    used: usize,
-    table: &mut [u32],
-    text: &mut [u8],
-) -> usize
+pub fn answer_rest(rest: &[u8], out: &mut [u8], used: usize, scratch: &mut Scratch) -> usize
     requires fact { Open rest.now }
     requires longest_answer_in_bounds { used + longest_answer ≤ length out.old }
-    requires table_len { length table.old ≡ line_cells }
-    requires text_len { length text.old ≡ line_text }
     ensures { (result ≤ length out.new) × (take result out.new ≡ take used out.old ++ output rest.now) }
 {
-    if rest.len() == 0 {
+    if rest.is_empty() {
         return used;
     }
-    answer_line(rest, out, used, table, text)
+    answer_line(rest, out, used, &mut scratch.table, &mut scratch.text)
 }

@@ -83,41 +83,21 @@ const NODES: [[u32; 9]; COUNT] = [
     [kinds::PARSE_RESULT, 4, 14, 38, 0, 5, 0, 0, 0], // 68
 ];
 
-fn put_row(table: &mut [u32], n: usize)
-    requires { n < 69 }
-{
-    let row = NODES[n];
-    let x = Node {
-        kind: row[0],
-        height: row[1],
-        a: row[2],
-        b: row[3],
-        c: row[4],
-        p: row[5],
-        q: row[6],
-        r: row[7],
-        s: row[8],
-    };
-    node::put_node(table, n, x);
-}
-
 fn fill(table: &mut [u32]) {
-    let mut n = 0;
-    while n < COUNT {
-        put_row(table, n);
-        n += 1;
-    }
-}
-
-// What stands in a damaged cell: its old value and one, or a value that some kind could have.
-fn damage(k: u32, old: u32) -> u32 {
-    match k {
-        0 => { if old < 4_294_967_295 { old + 1 } else { 0 } }
-        1 => 0,
-        2 => 1,
-        3 => 10,
-        4 => 64,
-        _ => 4_294_967_295,
+    for (n, row) in NODES.iter().enumerate() {
+        let [kind, height, a, b, c, p, q, r, s] = *row;
+        let x = Node {
+            kind,
+            height,
+            a,
+            b,
+            c,
+            p,
+            q,
+            r,
+            s,
+        };
+        node::put_node(table, n, x);
     }
 }
 
@@ -129,15 +109,14 @@ fn put_verdict(out: &mut Stdout, table: &[u32]) -> io::Result<()> {
     }
 }
 
-// Each damage of one cell, which is whole again afterwards.
+// Its old value and one, and values that some kind could have, in one cell, which is whole again afterwards.
 fn try_cell(out: &mut Stdout, table: &mut [u32], i: usize) -> io::Result<()> {
-    if table.len() <= i {
+    let Some(&old) = table.get(i) else {
         return Ok(());
-    }
-    let old = table[i];
+    };
     out.write_all(b" ")?;
-    for k in 0..6u32 {
-        table[i] = damage(k, old);
+    for damage in [old.wrapping_add(1), 0, 1, 10, 64, u32::MAX] {
+        table[i] = damage;
         put_verdict(out, table)?;
     }
     table[i] = old;
@@ -149,8 +128,8 @@ fn try_node(out: &mut Stdout, table: &mut [u32], n: usize) -> io::Result<()>
 {
     let kind = node::kind(table, n);
     write!(out, "{n} kind {kind}")?;
-    for j in 0..node::CELLS {
-        try_cell(out, table, n * node::CELLS + j)?;
+    for i in n * node::CELLS..(n + 1) * node::CELLS {
+        try_cell(out, table, i)?;
     }
     out.write_all(b"\n")
 }
@@ -161,10 +140,8 @@ fn main(rt: HostRuntime) -> io::Result<()> {
     fill(&mut table);
     put_verdict(&mut out, &table)?;
     out.write_all(b"\n")?;
-    let mut n = 0;
-    while n < COUNT {
+    for n in 0..COUNT {
         try_node(&mut out, &mut table, n)?;
-        n += 1;
     }
     Ok(())
 }

@@ -1,13 +1,10 @@
 -- A turn of the program. Assumes nothing: these are definitions.
-use Rattle.std.specs.Prelude.{ℕ, ◌+◌, ◌≤◌, false, ◌≡◌, List, length, take}
+use Rattle.std.specs.Prelude.{ℕ, ◌+◌, ◌≤◌, false, ◌≡◌, List, length, take, Option, Some, None, Result, Ok, Err}
+use Rattle.std.specs.declared.ops.ControlFlow.{ControlFlow}
+use Rattle.std.specs.declared.ops.ControlFlow.TheVariants.{Continue, Break}
 use Rattle.lines.specs.declared.Work.{Work}
 use Rattle.lines.specs.Output.{Open}
-use Rattle.undname.specs.declared.Got.{Got}
-use Rattle.undname.specs.declared.Got.TheVariants.{Bytes, End, Failed}
-use Rattle.undname.specs.declared.Handed.{Handed}
-use Rattle.undname.specs.declared.Handed.TheVariants as handed
-use Rattle.undname.specs.declared.Next.{Next}
-use Rattle.undname.specs.declared.Next.TheVariants as next
+use Rattle.undname.specs.declared.Failed.{Failed}
 use Rattle.lines.specs.Steps.{kept_most}
 
 -- the program's buffers of input and output
@@ -22,18 +19,22 @@ pub record Between (i : List ℕ) (w : Work) : Type 0 where
   pub small : w.full ≡ false → w.kept ≤ kept_most
 
 -- the bytes read stand after those kept, and the input has not ended where lines are left
-abbrev pub Reaches : Got → Work → ℕ → Type 0
-Reaches (Bytes n) w len = w.kept + n ≤ len
-Reaches End w len = w.full ≡ false
-Reaches Failed w len = Unit {0}
+abbrev pub Reaches : Result (Option ℕ) Failed → Work → ℕ → Type 0
+Reaches (Ok (Some n)) w len = w.kept + n ≤ len
+Reaches (Ok None) w len = w.full ≡ false
+Reaches (Err _) w len = Unit {0}
 
 -- where all that waits is written, the rest of the work stays
-abbrev pub Emptied : Handed → Work → Type 0
-Emptied (handed.All v) w = (v.kept ≡ w.kept) × (v.used ≡ 0) × (v.full ≡ w.full)
-Emptied handed.Failed w = Unit {0}
+abbrev pub Emptied : Result Work Failed → Work → Type 0
+Emptied (Ok v) w = (v.kept ≡ w.kept) × (v.used ≡ 0) × (v.full ≡ w.full)
+Emptied (Err _) w = Unit {0}
+
+-- where all is done, nothing is kept and nothing waits
+abbrev pub Finished : Work → Type 0
+Finished v = (v.kept ≡ 0) × (v.used ≡ 0)
 
 -- what a turn leaves, with the input i: work to go on with; or, where all is done, nothing is kept and nothing waits
-abbrev pub Goes : Next → List ℕ → Type 0
-Goes (next.On v) i = Between i v
-Goes (next.Done v) i = (v.kept ≡ 0) × (v.used ≡ 0)
-Goes next.Failed i = Unit {0}
+abbrev pub Goes : Result (ControlFlow Work Work) Failed → List ℕ → Type 0
+Goes (Ok (Continue v)) i = Between i v
+Goes (Ok (Break v)) i = Finished v
+Goes (Err _) i = Unit {0}

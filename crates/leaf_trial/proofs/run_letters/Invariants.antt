@@ -7,4 +7,4 @@ abbrev pub invariant-loop-c : goal.invariant-loop-c
 invariant-loop-c l = (l.last < length l.bytes) × (length l.bytes ≡ length l.initial.bytes)
 
 abbrev pub decreases-loop-c : goal.decreases-loop-c
-decreases-loop-c l = 256 - l.c
+decreases-loop-c l = 256 - l.c-counter
