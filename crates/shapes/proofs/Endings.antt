@@ -1,26 +1,27 @@
 -- The ends of names and of special names, and a guard's index. Assumes nothing.
-use Prim.Native.Nat.{ℕ, ◌+◌, ◌-◌, ◌≤◌, ◌<◌}
+use Prim.Native.Nat.{ℕ, ◌-◌, ◌+◌, ◌≤◌, ◌<◌}
 use mathlib.Core.Path.{◌≡◌, refl, sym, ◌∙◌}
 use mathlib.Core.List.{List, [], ◌∷◌}
 use mathlib.Core.Bool.{Bool, true, false}
 use native.Mathlib.Omega.{arith}
 use lib.ListN.{length}
 use lib.Dec.{eqb}
-use borrow.Author.Tests.{le-leb, lt-leb, eq-eqb, ne_eqb}
-use Rattle.letters.specs.Classes.{read_guard_marker}
+use borrow.Author.Tests.{le-leb, lt-leb, ne_eqb}
+use Rattle.std.specs.Prelude.{Result, Ok, Err}
 use Rattle.grammar.specs.Program.{ret, when, sub, node, run}
-use Rattle.grammar.specs.Words.{leaf, unsigned, memorize_name}
+use Rattle.grammar.specs.Words.{unsigned, memorize_name}
 use Rattle.node.specs.Kind.{Operator}
 use Rattle.grammar.specs.Table.{laid}
-use Rattle.grammar.specs.Grammar.{Reading, close, rtti_type_descriptor, rtti_base_class_descriptor, is_guard, index_and_one, guard_index}
+use Rattle.grammar.specs.Grammar.{Reading, close, rtti_type_descriptor, rtti_base_class_descriptor, is_guard, index_and_one}
+use Rattle.grammar.specs.declared.State.{State}
+use Rattle.grammar.specs.declared.Refusal.{Refusal}
 use Rattle.steps.specs.Does.{runs, Values, Leads}
-use Rattle.steps.specs.declared.state.Spot.{Spot}
-use Rattle.steps.specs.declared.state.Value.TheVariants.{Is, Bad}
-use Rattle.steps.specs.declared.state.Took.{Took}
 use Rattle.steps.proofs.Laws.{ends}
-use Rattle.steps.proofs.Leads.{leads-refl, leads-on, leads-sub, leads-when, leads-else, Alike, alike-node}
+use Rattle.steps.proofs.More.{onward-assoc}
+use Rattle.steps.proofs.Leads.{Alike, alike-node}
 use Rattle.ends.specs.Ends.{leaf_name}
 use Rattle.shapes.specs.Shapes.{unguarded, shape_special}
+use Rattle.shapes.specs.declared.names.SpecialShape.{SpecialShape}
 use Rattle.shapes.specs.declared.names.SpecialShape.TheVariants as special
 
 -- one less, twice
@@ -38,42 +39,51 @@ module _ {s : List ℕ} where
   alike-unstored {kd} {p} {q} {numbers} e =
       record { is = λ limit room d st t. (alike-node {s = s} {kd = kd} {numbers = numbers} {numbers' = p ∷ q ∷ []} {refs = []} {refs' = []} e refl refl).is limit room d st t ∙ sym (ends (runs s limit room d (node kd (p ∷ q ∷ []) [] ret) st t)) }
 
+-- and the first part of it for a guard's name
+pub alike-first : {s : List ℕ} {p q : Reading ℕ} → Alike s p q → Alike s (unguarded p) (unguarded q)
+unfolding run
+alike-first a = record { is = λ limit room d st t. rw (a.is limit room d st t) refl }
+
+-- programs in another order of brackets
+module _ {s : List ℕ} {A B C X : Type 0} {p : Reading C} {h : C → Reading B} {f : B → Reading A} {k : X → Reading A} where
+  pub leads-inner : {g : Result X Refusal} {st st' : State} → Leads s (sub p (λ c. sub (h c) f)) st k g st' → Leads s (sub (sub p h) f) st k g st'
+  unfolding run
+  leads-inner {st = st} a =
+      record { is = λ limit room d t. a.is limit room d t ∙ sym (onward-assoc (runs s limit room d p st t).reply (runs s limit room d p st t).state (runs s limit room d p st t).cells (λ c st t. runs s limit room d (h c) st t) (λ b st t. runs s limit room d (f b) st t)) }
+
+-- a test
+module _ {s : List ℕ} {A : Type 0} {b : Bool} {p q : Reading A} {g : Result A Refusal} {st st' : State} where
+  pub values-when : b ≡ true → Values s p st g st' → Values s (when b p q) st g st'
+  unfolding run
+  values-when e v = record { is = λ limit room d t. rw e (v.is limit room d t) }
+
+  pub values-else : b ≡ false → Values s q st g st' → Values s (when b p q) st g st'
+  unfolding run
+  values-else e v = record { is = λ limit room d t. rw e (v.is limit room d t) }
+
 -- what is behind an operator: two have operands
 abbrev behind : ℕ → Reading (ℕ × Bool)
 behind op = sub (when (eqb op 75) rtti_type_descriptor (when (eqb op 76) rtti_base_class_descriptor (close Operator (op ∷ []) []))) (λ n. ret {A = ℕ × Bool} (n, is_guard op))
 
-module _ {s : List ℕ} {st st' : Spot} {q : Reading (ℕ × Bool)} where
-  pub behind-type : {op : ℕ} → op ≡ 75 → Leads s (unguarded rtti_type_descriptor) st q st' → Leads s (behind op) st q st'
-  behind-type e a = rw e (leads-on (leads-sub (leads-when refl leads-refl)) a)
+module _ {s : List ℕ} {st st' : State} {g : Result SpecialShape Refusal} where
+  pub behind-type : {op : ℕ} → op ≡ 75 → Leads s (unguarded rtti_type_descriptor) st shape_special g st' → Leads s (behind op) st shape_special g st'
+  unfolding run
+  behind-type e a = record { is = λ limit room d t. rw e (a.is limit room d t) }
 
-  pub behind-base : {op : ℕ} → op ≡ 76 → Leads s (unguarded rtti_base_class_descriptor) st q st' → Leads s (behind op) st q st'
-  behind-base e a = rw e (leads-on (leads-sub (leads-else refl (leads-when refl leads-refl))) a)
+  pub behind-base : {op : ℕ} → op ≡ 76 → Leads s (unguarded rtti_base_class_descriptor) st shape_special g st' → Leads s (behind op) st shape_special g st'
+  unfolding run
+  behind-base e a = record { is = λ limit room d t. rw e (a.is limit room d t) }
 
-pub behind-other : {s : List ℕ} {st : Spot} {op : ℕ} → (op ≡ 75 → ⊥) → (op ≡ 76 → ⊥) → Leads s (behind op) st (shape_special (special.Operator op)) st
-behind-other {op = op} e f = leads-sub (leads-else (ne_eqb op 75 e) (leads-else (ne_eqb op 76 f) leads-refl))
+pub behind-other : {s : List ℕ} {st : State} {op : ℕ} → (op ≡ 75 → ⊥) → (op ≡ 76 → ⊥) → Leads s (behind op) st shape_special (Ok (special.Operator op)) st
+unfolding run
+behind-other {op = op} e f = record { is = λ limit room d t. rw (ne_eqb op 75 e, ne_eqb op 76 f) refl }
 
 -- a guard's index
-module _ {s : List ℕ} {st : Spot} where
-  pub index-none : {r : Took} → length s ≤ st.at → r ≡ record { value = Is 0; state = st } → Values s index_and_one st r
+module _ {s : List ℕ} {st : State} where
+  pub index-none : length s ≤ st.at → Values s index_and_one st (Ok 0) st
   unfolding run index_and_one
-  index-none h e = record { is = λ limit room d t. rw (le-leb (length s) st.at h, e) }
+  index-none h = record { is = λ limit room d t. rw (le-leb (length s) st.at h) }
 
-  pub index-some : {i : ℕ} {k r : Took} → st.at < length s → Values s unsigned st k → k.value ≡ Is i → r ≡ record { value = Is (i + 1); state = k.state } → Values s index_and_one st r
+  pub index-some : {g : Result ℕ Refusal} {st' : State} → st.at < length s → Values s (sub unsigned (λ i. ret (i + 1))) st g st' → Values s index_and_one st g st'
   unfolding run index_and_one
-  index-some h v a e = record { is = λ limit room d t. rw (lt-leb (length s) st.at h, sym (v.is limit room d t), a, e) }
-
-  pub index-bad : {k : Took} → st.at < length s → Values s unsigned st k → k.value ≡ Bad → Values s index_and_one st k
-  unfolding run index_and_one
-  index-bad h v a = record { is = λ limit room d t. rw (lt-leb (length s) st.at h, sym (v.is limit room d t), a) }
-
-  pub guard-some : {guard x : ℕ} {m r : Took} → guard ≡ 1 → Values s (leaf read_guard_marker) st m → m.value ≡ Is x → Values s index_and_one m.state r → Values s (guard_index (eqb guard 1)) st r
-  unfolding run guard_index
-  guard-some {guard} g v a h = record { is = λ limit room d t. rw (eq-eqb guard 1 g, sym (v.is limit room d t), a) (h.is limit room d t) }
-
-  pub guard-bad : {guard : ℕ} {m : Took} → guard ≡ 1 → Values s (leaf read_guard_marker) st m → m.value ≡ Bad → Values s (guard_index (eqb guard 1)) st m
-  unfolding run guard_index
-  guard-bad {guard} g v a = record { is = λ limit room d t. rw (eq-eqb guard 1 g, sym (v.is limit room d t), a) }
-
-  pub guard_none : {guard : ℕ} {r : Took} → (guard ≡ 1 → ⊥) → r ≡ record { value = Is 0; state = st } → Values s (guard_index (eqb guard 1)) st r
-  unfolding run guard_index
-  guard_none {guard} g e = record { is = λ limit room d t. rw (ne_eqb guard 1 g, e) }
+  index-some h v = record { is = λ limit room d t. rw (lt-leb (length s) st.at h) (v.is limit room d t) }

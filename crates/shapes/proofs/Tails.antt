@@ -1,37 +1,24 @@
--- A head that is good or not, and the tails of the grammar's functions: they lay the same cells as a signature's tail does.
--- Letters that may be missing, by the bytes that stand before them. Assumes nothing.
+-- The tails of the grammar's functions: they lay the same cells as a signature's tail does. The bits of a qualifier. Assumes nothing.
 use Prim.Native.Nat.{ℕ, ◌≤◌}
-use mathlib.Core.Path.{◌≡◌, refl, sym, ap, subst, ◌∙◌}
+use mathlib.Core.Path.{◌≡◌, refl}
 use mathlib.Core.List.{List, [], ◌∷◌}
-use mathlib.Core.Bool.{Bool, true, false}
+use mathlib.Core.Bool.{true, false}
 use lib.Dec.{leb}
 use lib.ListN.{length, drop}
+use Rattle.std.specs.Prelude.{Ok}
 use Rattle.letters.specs.Classes.{read_calling_conv, read_storage_class_for_return, read_qualifier}
 use Rattle.letters.proofs.Spelled.{sized-qualifier}
 use Rattle.grammar.specs.Program.{ret, sub, node}
 use Rattle.grammar.specs.Words.{leaf, class}
 use Rattle.node.specs.Kind.{MemberFunction, NonMemberFunction}
 use Rattle.grammar.specs.Table.{laid}
-use Rattle.grammar.specs.Grammar.{Reading, close, to, var_type, func_return_type, func_params, plain_function}
-use Rattle.grammar.specs.declared.Refusal.TheVariants.{Syntax}
-use Rattle.steps.specs.Does.{Lent, plain, refused_at, Does, Classes, Leads}
-use Rattle.steps.specs.declared.state.Spot.{Spot}
-use Rattle.steps.specs.declared.state.Got.{Got}
-use Rattle.steps.specs.declared.state.Classed.{Classed}
-use Rattle.steps.proofs.Laws.{does-fail}
-use Rattle.steps.proofs.More.{does-as}
+use Rattle.grammar.specs.Grammar.{close, to, var_type, func_return_type, func_params, plain_function}
+use Rattle.grammar.specs.declared.State.{State}
+use Rattle.steps.specs.Does.{Values}
 use Rattle.steps.proofs.Choices.{class-says}
 use Rattle.steps.proofs.Leads.{Alike, alike-sub, alike-node}
-use Rattle.shapes.specs.Shapes.{headed, tail_if, signed, tail_of, returned, conventions}
-use Rattle.shapes.specs.declared.heads.Headed.{Headed}
+use Rattle.shapes.specs.Shapes.{signed, tail_of, returned, conventions}
 use Rattle.shapes.specs.declared.heads.Signature.{Signature}
-
-module _ {s : List ℕ} {limit room d : ℕ} where
-  pub head-good : (h : Headed) {st : Spot} {t t' : Lent} {g : Got} → h.good ≡ true → Does s limit room d (tail_of h.signature) st t plain g t' → Does s limit room d (headed h) st t plain g t'
-  head-good h e r = does-as (ap (λ (b : Bool). tail_if b h.signature) e) r
-
-  pub head-bad : (h : Headed) {st : Spot} {t : Lent} {g : Got} → h.good ≡ false → g ≡ refused_at Syntax st → Does s limit room d (headed h) st t plain g t
-  head-bad h e f = does-as (ap (λ (b : Bool). tail_if b h.signature) e) (does-fail f)
 
 -- a return, the parameters, and a node of these numbers
 pub tail-alike :
@@ -39,10 +26,6 @@ pub tail-alike :
     ((t l : ℕ) → laid x.kind 0 numbers (refs t l) ≡ laid x.kind 0 (x.class ∷ x.convention ∷ x.func_class ∷ []) (to t ∷ l ∷ x.third ∷ [])) → ((t l : ℕ) → leb (length (refs t l)) 3 ≡ true) →
     Alike s (sub (returned x.structor x.return_class) (λ t. sub func_params (λ l. node x.kind numbers (refs t l) ret))) (tail_of x)
 tail-alike x numbers refs e h = alike-sub (λ t. alike-sub (λ l. alike-node (e t l) (h t l) refl))
-
--- a convention and the class of a return, and then a tail
-pub convened : {s : List ℕ} {x y : Signature} {q : Reading ℕ} {st st' : Spot} → x ≡ y → Leads s (conventions x) st q st' → Leads s (conventions y) st q st'
-convened {s} {q = q} {st = st} {st' = st'} e a = subst (λ (x : Signature). Leads s (conventions x) st q st') e a
 
 pub plain-alike : {s : List ℕ} → Alike s plain_function (conventions (signed 20 0 0 0 0 0 false))
 plain-alike = alike-sub (λ conv. alike-sub (λ sc. tail-alike (signed 20 0 conv 0 0 sc false) (0 ∷ conv ∷ []) (λ t l. to t ∷ l ∷ []) (λ t l. refl) (λ t l. refl)))
@@ -58,10 +41,6 @@ pub member_alike :
     (conventions (signed 18 sc 0 func_class 0 0 true))
 member_alike sc func_class = alike-sub (λ conv. alike-sub (λ return_sc. tail-alike (signed 18 sc conv func_class 0 return_sc true) (sc ∷ conv ∷ func_class ∷ []) (λ t l. to t ∷ l ∷ []) (λ t l. refl) (λ t l. refl)))
 
--- the bits of letters behind what a program goes on by
-pub classes-leads : {s : List ℕ} {p q : Reading ℕ} {st st' : Spot} {r : Classed} → Leads s p st q st' → Classes s q st' r → Classes s p st r
-classes-leads a c = record { is = λ limit room d t. c.is limit room d t ∙ sym (a.is limit room d t) }
-
 -- the bits of a qualifier are few
-pub qualifier-small : {s : List ℕ} {st : Spot} {r : Classed} → Classes s (class read_qualifier) st r → r.bits ≤ 12
-qualifier-small {s} {st} q = rw (class-says read_qualifier q) (sized-qualifier.bound (drop st.at s))
+pub qualifier-small : {s : List ℕ} {x : ℕ} {st st' : State} → Values s (class read_qualifier) st (Ok x) st' → x ≤ 12
+qualifier-small {s} {st = st} q = rw (class-says read_qualifier q) (sized-qualifier.bound (drop st.at s))

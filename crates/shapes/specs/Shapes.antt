@@ -7,16 +7,14 @@ use Rattle.forms.specs.declared.begins.NameForm.{NameForm}
 use Rattle.forms.specs.declared.begins.NameForm.TheVariants as form
 use Rattle.forms.specs.declared.types.TypeLetter.{TypeLetter}
 use Rattle.forms.specs.declared.types.TypeLetter.TheVariants as letter
-use Rattle.grammar.specs.Program.{ret, fail, part, node}
-use Rattle.grammar.specs.Words.{◌>>=◌, ◌>>◌, ◌⇒◌∥◌, expect, leaf, class, memorize_name, name_of, number}
-use Rattle.node.specs.Kind.{kind_number, NonTemplate, RttiTypeDescriptor, RttiBaseClassDescriptor, Operator, ParsedName, NonMemberFunction, VCallThunk, Var}
+use Rattle.grammar.specs.Program.{ret, part, node}
+use Rattle.grammar.specs.Words.{◌>>=◌, ◌>>◌, ◌⇒◌∥◌, leaf, class, memorize_name, name_of, number}
+use Rattle.node.specs.Kind.{kind_number, NonTemplate, RttiTypeDescriptor, RttiBaseClassDescriptor, Operator, ParsedName, NonMemberFunction, Var}
 use Rattle.grammar.specs.Grammar.{Reading, Parse, Func, close, to, name', var_type, pointee, array, member_function_pointer, func_type, func_return_type, func_params, member_function, plain_function, scope, template_name, nested_of, special_name, is_guard}
-use Rattle.steps.specs.declared.state.Spot.{Spot}
 use Rattle.ends.specs.Ends.{leaf_name, stored_unless}
 use Rattle.shapes.specs.declared.types.Shape.{Shape}
 use Rattle.shapes.specs.declared.types.Shape.TheVariants as types
 use Rattle.shapes.specs.declared.heads.Signature.{Signature}
-use Rattle.shapes.specs.declared.heads.Headed.{Headed}
 use Rattle.shapes.specs.declared.symbols.SymbolShape.{SymbolShape}
 use Rattle.shapes.specs.declared.symbols.SymbolShape.TheVariants as symbols
 use Rattle.shapes.specs.declared.names.NameShape.{NameShape}
@@ -41,7 +39,6 @@ basic_of letter.ConstPtr = 0
 basic_of letter.VolatilePtr = 0
 basic_of letter.ConstVolatilePtr = 0
 basic_of letter.Array = 0
-basic_of letter.Refused = 0
 
 abbrev pub shape_type : Shape → Reading ℕ
 shape_type (types.Named kind function sc) = do
@@ -57,7 +54,6 @@ shape_type (types.Member qualifiers) = member_function_pointer qualifiers
 shape_type (types.Function qualifiers) = func_type qualifiers
 shape_type types.Array = array
 shape_type (types.Leaf kind p) = node kind (p ∷ []) [] ret
-shape_type types.Refused = fail
 
 abbrev pub numbered_type : ℕ → Reading ℕ
 numbered_type kind = do
@@ -78,19 +74,6 @@ tail_of x = do
   t ← returned x.structor x.return_class
   l ← func_params
   node x.kind (x.class ∷ x.convention ∷ x.func_class ∷ []) (to t ∷ l ∷ x.third ∷ []) ret
-
-abbrev pub headed_at : Signature → Spot → Headed
-headed_at x st = record { good = true; signature = x; state = st }
-
-abbrev pub refused_head : Spot → Headed
-refused_head st = record { good = false; signature = signed 0 0 0 0 0 0 false; state = st }
-
-abbrev pub tail_if : Bool → Signature → Reading ℕ
-tail_if true x = tail_of x
-tail_if false x = fail
-
-abbrev pub headed : Headed → Reading ℕ
-headed h = tail_if h.good h.signature
 
 -- a convention and the class of the return come into a signature that lacks them
 abbrev pub conventions : Signature → Reading ℕ
@@ -125,19 +108,12 @@ shape_symbol (symbols.Table kind sc) = do
 shape_symbol (symbols.Function true) = member_function
 shape_symbol (symbols.Function false) = plain_function
 shape_symbol (symbols.Leaf kind p q) = node kind (p ∷ q ∷ []) [] ret
-shape_symbol symbols.Refused = fail
 
 abbrev pub table_of : ℕ → Reading ℕ
 table_of kind = do
   sc ← class read_qualifier
   l ← scope
   node kind (sc ∷ []) (l ∷ []) ret
-
-abbrev pub thunk_end : ℕ → Reading ℕ
-thunk_end offset = do
-  expect "A"
-  conv ← leaf read_calling_conv
-  close VCallThunk (offset ∷ conv ∷ []) []
 
 -- names
 abbrev pub shape_name : NameShape → Reading ℕ
@@ -150,7 +126,6 @@ shape_name names.Template = do
   memorize_name n
   ret n
 shape_name (names.Leaf kind p q stored) = leaf_name kind p q stored
-shape_name names.Refused = fail
 
 -- a nested name by what it begins with; a symbol as a name is `??`, of which one `?` is its own
 abbrev pub name_form_of : NameForm → Reading ℕ
@@ -175,15 +150,8 @@ shape_unqualified function unqualified.Template = do
   stored_unless function n
 shape_unqualified function unqualified.Special = special_name
 shape_unqualified function (unqualified.Plain start length) = unguarded (leaf_name (kind_number NonTemplate) start length true)
-shape_unqualified function unqualified.Refused = fail
 
 -- special names
-abbrev pub base_end : ℕ → ℕ → Reading ℕ
-base_end p q = do
-  r ← number
-  flags ← number
-  close RttiBaseClassDescriptor (p ∷ q ∷ r ∷ flags ∷ []) []
-
 abbrev pub shape_special : SpecialShape → Reading (ℕ × Bool)
 shape_special (special.Operator op) = do
   n ← close Operator (op ∷ []) []
@@ -192,4 +160,3 @@ shape_special (special.Type sc) = unguarded (do
   t ← var_type sc
   close RttiTypeDescriptor (sc ∷ []) (to t ∷ []))
 shape_special (special.Base p q r flags) = unguarded (close RttiBaseClassDescriptor (p ∷ q ∷ r ∷ flags ∷ []) [])
-shape_special special.Refused = fail

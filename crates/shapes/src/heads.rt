@@ -1,5 +1,5 @@
 // The head of a function's type: what stands before its return.
-ghost use Rattle.std.specs.Prelude.{◌≤◌, Ok};
+ghost use Rattle.std.specs.Prelude.{◌≡◌, ◌≤◌, Ok};
 ghost use Rattle.grammar.specs.Grammar.{func_type, member_function, plain_function, member_pointer, is_static};
 ghost use Rattle.shapes.specs.declared.symbols.SymbolShape.TheVariants.{Function};
 ghost use Rattle.steps.specs.Does.{Values, Leads};
@@ -12,7 +12,7 @@ use node::kinds;
 use steps::close::to;
 use steps::reader::Reader;
 
-// The node's kind and numbers, its third reference, the class of the return, and whether a structor's `@` may stand for it.
+// The node's kind, numbers and third reference, the class of the return, and whether a structor's `@` may stand for it.
 #[derive(Clone, Copy)]
 pub struct Signature {
     pub kind: u32,

@@ -1,12 +1,13 @@
 -- Assumes nothing.
-use Rattle.steps.proofs.Leads.{leads-refl, leads-value, leads-bad}
+use Rattle.steps.proofs.Laws.{handed}
+use Rattle.steps.proofs.Leads.{leads-bad, leads-ret, leads-value}
 use Rattle.shapes.proofs.heads.conventions.Goals as goal
 
-pub returns-in-Is-kv : goal.returns-in-Is-kv
-returns-in-Is-kv c = rw (c.headed_at.ensures, c.signature_of.ensures) (leads-value c.calling_conv-c.ensures c.in-Is.is (leads-value c.return_class-k.ensures c.in-Is-kv.is leads-refl))
+pub returns-in_err-convention : goal.returns-in_err-convention
+returns-in_err-convention c = leads-bad c.calling_conv.ensures c.in_err-convention.was (handed c.from_residual.ensures)
 
-pub returns-in-Bad-kv : goal.returns-in-Bad-kv
-returns-in-Bad-kv c = rw c.bad.ensures (leads-value c.calling_conv-c.ensures c.in-Is.is (leads-bad c.return_class-k.ensures c.in-Bad-kv.is))
+pub returns-in_err-return_class : goal.returns-in_err-return_class
+returns-in_err-return_class c = leads-value c.calling_conv.ensures c.in_ok-convention.was (leads-bad c.return_class.ensures c.in_err-return_class.was (handed c.from_residual-in_err-return_class.ensures))
 
-pub returns-in-Bad : goal.returns-in-Bad
-returns-in-Bad c = rw c.bad-in-Bad.ensures (leads-bad c.calling_conv-c.ensures c.in-Bad.is)
+pub returns : goal.returns
+returns c = leads-value c.calling_conv.ensures c.in_ok-convention.was (leads-value c.return_class.ensures c.in_ok-return_class.was leads-ret)

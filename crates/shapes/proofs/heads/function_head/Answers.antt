@@ -1,12 +1,16 @@
 -- Assumes nothing.
-use Rattle.steps.proofs.Leads.{leads-refl, leads-on, leads-when, leads-else, leads-ret, leads-class, leads-sub}
+use Rattle.steps.proofs.Leads.{leads-value}
+use mathlib.Core.Path.{refl}
+use Rattle.shapes.proofs.Endings.{values-else, values-when}
+use Rattle.steps.proofs.Choices.{values-ret}
 use Rattle.grammar.specs.Grammar.{func_type}
+use Rattle.shapes.proofs.heads.function_head.Goals.{then-qualifiers, else-qualifiers}
 use Rattle.shapes.proofs.heads.function_head.Goals as goal
-
-pub returns-then-qualifiers : goal.returns-then-qualifiers
-unfolding func_type
-returns-then-qualifiers c = leads-on (leads-sub (leads-when c.if-qualifiers.true leads-refl)) (leads-class c.func_qualifiers-q.ensures c.function_rest.ensures)
 
 pub returns : goal.returns
 unfolding func_type
-returns c = leads-on (leads-sub (leads-else c.if-qualifiers.false leads-refl)) (leads-ret c.function_rest-2.ensures)
+returns c = 
+    elim c.if-qualifiers.branch [
+      then-qualifiers w ↦ leads-value (rw (w.class-is, w.st-is) (values-when w.if-qualifiers.true w.func_qualifiers-class.ensures)) refl c.function_rest.ensures
+    | else-qualifiers w ↦ leads-value (rw (w.class-is, w.st-is) (values-else w.if-qualifiers.false values-ret)) refl c.function_rest.ensures
+    ]

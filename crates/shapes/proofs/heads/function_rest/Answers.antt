@@ -1,10 +1,12 @@
 -- Assumes nothing.
-use Rattle.steps.proofs.Leads.{leads-value, leads-bad, leads-class, leads-alike}
+use Rattle.steps.proofs.Laws.{handed}
+use Rattle.steps.proofs.Leads.{leads-alike, leads-bad, leads-ret, leads-value}
+use mathlib.Core.Path.{refl}
 use Rattle.shapes.proofs.Tails.{rest-alike}
 use Rattle.shapes.proofs.heads.function_rest.Goals as goal
 
-pub returns-in-Is : goal.returns-in-Is
-returns-in-Is c = rw (c.headed_at.ensures, c.signature_of.ensures) (leads-value c.calling_conv-c.ensures c.in-Is.is (leads-class c.variable_class-k.ensures (leads-alike (rest-alike _ _ _))))
+pub returns-in_err-convention : goal.returns-in_err-convention
+returns-in_err-convention c = leads-bad c.calling_conv.ensures c.in_err-convention.was (handed c.from_residual.ensures)
 
-pub returns-in-Bad : goal.returns-in-Bad
-returns-in-Bad c = rw c.bad.ensures (leads-bad c.calling_conv-c.ensures c.in-Bad.is)
+pub returns : goal.returns
+returns c = leads-value c.calling_conv.ensures c.in_ok-convention.was (leads-value c.variable_class-return_class.ensures refl (leads-alike (rest-alike _ _ _) leads-ret))

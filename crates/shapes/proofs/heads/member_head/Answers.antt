@@ -1,18 +1,22 @@
 -- Assumes nothing.
-use Rattle.steps.proofs.Leads.{leads-refl, leads-on, leads-when, leads-else, leads-ret, leads-value, leads-bad, leads-class, leads-sub, leads-alike}
-use Rattle.shapes.proofs.Tails.{convened, member_alike}
-use mathlib.Core.Path.{sym, ◌∙◌}
+use Rattle.steps.proofs.Laws.{handed}
+use Rattle.steps.proofs.Leads.{leads-alike, leads-bad, leads-value}
+use Rattle.shapes.proofs.Tails.{member_alike}
+use mathlib.Core.Path.{refl, sym, ◌∙◌}
+use Rattle.shapes.proofs.Endings.{values-else, values-when}
+use Rattle.steps.proofs.Choices.{values-ret}
 use Rattle.grammar.specs.Grammar.{member_function}
+use Rattle.shapes.proofs.heads.member_head.Goals.{then-is_static, else-is_static}
 use Rattle.shapes.proofs.heads.member_head.Goals as goal
 
-pub returns-then-is_static : goal.returns-then-is_static
+pub returns-in_err-func_class : goal.returns-in_err-func_class
 unfolding member_function
-returns-then-is_static c = leads-value c.func_class-c.ensures c.in-Is.is (leads-on (leads-sub (leads-when (sym c.is_static.ensures ∙ c.if-is_static.true) leads-refl)) (leads-ret (leads-on (leads-alike (member_alike _ _)) (convened c.signature_of.ensures c.conventions.ensures))))
+returns-in_err-func_class c = leads-bad c.func_class.ensures c.in_err-func_class.was (handed c.from_residual.ensures)
 
-pub returns-else-is_static : goal.returns-else-is_static
+pub returns : goal.returns
 unfolding member_function
-returns-else-is_static c = leads-value c.func_class-c.ensures c.in-Is.is (leads-on (leads-sub (leads-else (sym c.is_static.ensures ∙ c.if-is_static.false) leads-refl)) (leads-class c.func_qualifiers-q.ensures (leads-on (leads-alike (member_alike _ _)) (convened c.signature_of-in-Is.ensures c.conventions-in-Is.ensures))))
-
-pub returns-in-Bad : goal.returns-in-Bad
-unfolding member_function
-returns-in-Bad c = rw c.bad.ensures (leads-bad c.func_class-c.ensures c.in-Bad.is)
+returns c = 
+    leads-value c.func_class.ensures c.in_ok-func_class.was (elim c.if-is_static.branch [
+      then-is_static w ↦ leads-value (rw (w.class-is, w.st-is) (values-when (sym c.is_static.ensures ∙ w.if-is_static.true) values-ret)) refl (leads-alike (member_alike _ _) c.conventions.ensures)
+    | else-is_static w ↦ leads-value (rw (w.class-is, w.st-is) (values-else (sym c.is_static.ensures ∙ w.if-is_static.false) w.func_qualifiers-class.ensures)) refl (leads-alike (member_alike _ _) c.conventions.ensures)
+    ])

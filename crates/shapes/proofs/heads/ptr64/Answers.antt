@@ -1,21 +1,9 @@
 -- Assumes nothing.
-use Rattle.steps.proofs.Leads.{leads-refl, leads-met, leads-unmet}
-use Rattle.steps.proofs.Choices.{classes-ret}
-use Rattle.shapes.proofs.Tails.{classes-leads}
-use mathlib.Core.Path.{refl}
-use native.Mathlib.Omega.{arith}
+use Rattle.steps.proofs.Choices.{values-met, values-ret, values-unmet}
 use Rattle.shapes.proofs.heads.ptr64.Goals as goal
 
-pub returns-in-Is : goal.returns-in-Is
-returns-in-Is c =
-    record {
-      classes = classes-leads (leads-met "E" c.expect-e.ensures c.in-Is.is leads-refl) (classes-ret refl);
-      bits_bound = omega arith;
-    }
+pub returns-then-consume-clause-classes : goal.returns-then-consume-clause-classes
+returns-then-consume-clause-classes c = values-met "E" c.consume.ensures c.if-consume.true values-ret
 
-pub returns-in-Bad : goal.returns-in-Bad
-returns-in-Bad c =
-    record {
-      classes = classes-leads (leads-unmet "E" c.expect-e.ensures c.in-Bad.is leads-refl) (classes-ret refl);
-      bits_bound = omega arith;
-    }
+pub returns-else-consume-clause-classes : goal.returns-else-consume-clause-classes
+returns-else-consume-clause-classes c = values-unmet "E" c.consume.ensures c.if-consume.false values-ret

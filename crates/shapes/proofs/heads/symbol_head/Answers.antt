@@ -1,8 +1,7 @@
 -- Assumes nothing.
+use Rattle.steps.proofs.Leads.{leads-alike}
+use Rattle.shapes.proofs.Tails.{plain-alike}
 use Rattle.shapes.proofs.heads.symbol_head.Goals as goal
 
-pub returns-then-member : goal.returns-then-member
-returns-then-member c = rw c.if-member.true c.member_head.ensures
-
 pub returns-else-member : goal.returns-else-member
-returns-else-member c = rw c.if-member.false c.plain_head.ensures
+returns-else-member c = rw c.if-member.false (leads-alike plain-alike c.conventions.ensures)

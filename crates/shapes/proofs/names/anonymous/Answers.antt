@@ -1,14 +1,15 @@
 -- Assumes nothing.
-use Rattle.steps.proofs.Leads.{leads-expects, leads-expects-bad, leads-alike}
 use Rattle.shapes.proofs.Endings.{alike-unstored}
+use Rattle.steps.proofs.Laws.{handed, values-expect}
+use Rattle.steps.proofs.Leads.{leads-alike, leads-bad, leads-ret, leads-value}
 use mathlib.Core.Path.{refl}
 use Rattle.grammar.specs.Grammar.{nested_of}
 use Rattle.shapes.proofs.names.anonymous.Goals as goal
 
-pub returns-in-Is : goal.returns-in-Is
+pub returns-in_err-expect : goal.returns-in_err-expect
 unfolding nested_of
-returns-in-Is c = rw c.shaped.ensures (leads-expects "@" c.expect-e.ensures c.in-Is.is (leads-alike (alike-unstored refl)))
+returns-in_err-expect c = leads-bad (values-expect "@" c.expect.ensures) c.in_err-expect.was (handed c.from_residual.ensures)
 
-pub returns-in-Bad : goal.returns-in-Bad
+pub returns : goal.returns
 unfolding nested_of
-returns-in-Bad c = rw c.shaped-in-Bad.ensures (leads-expects-bad "@" c.expect-e.ensures c.in-Bad.is)
+returns c = leads-value (values-expect "@" c.expect.ensures) c.in_ok-expect.was (leads-alike (alike-unstored refl) leads-ret)

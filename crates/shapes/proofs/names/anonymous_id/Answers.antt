@@ -1,29 +1,27 @@
 -- Assumes nothing.
-use Rattle.steps.proofs.Leads.{leads-from, leads-here, leads-expects, leads-expects-bad, leads-alike}
-use Rattle.shapes.proofs.Begun.{leads-hex, leads-refused, leads-passed}
-use Rattle.shapes.proofs.Bounds.{hex-room}
-use Rattle.shapes.proofs.Endings.{less_two, alike-stored}
+use Rattle.shapes.proofs.Endings.{alike-stored, values-else, values-when}
 use native.Mathlib.Omega.{arith}
+use Rattle.steps.proofs.Laws.{handed, values-expect}
+use Rattle.shapes.proofs.Bounds.{hex-room}
+use Rattle.steps.proofs.Leads.{leads-alike, leads-bad, leads-here, leads-ret, leads-value}
+use mathlib.Core.Path.{refl}
+use Rattle.steps.proofs.Choices.{values-fail, values-ret}
+use Rattle.shapes.proofs.Begun.{values-hex}
 use Rattle.grammar.specs.Grammar.{nested_of}
+use borrow.Author.Tests.{eq-eqb, ne_eqb}
 use Rattle.shapes.proofs.names.anonymous_id.Goals as goal
 
-pub past-behind-requires : goal.past-behind-requires
-past-behind-requires c = (hex-room c.args.s.now c.args.st.at c.requires (omega (arith, c.struct_known-1.given)) c.read_hex_digits-n.ensures)
+pub pass-requires : goal.pass-requires
+pass-requires c = hex-room c.args.r.s.now c.args.st.now.at c.args.r.short (omega arith) c.read_hex_digits-n.ensures
 
 pub returns-then-n-eq0 : goal.returns-then-n-eq0
 unfolding nested_of
-returns-then-n-eq0 c = rw c.shaped.ensures (leads-here (leads-hex c.read_hex_digits-n.ensures (leads-from c.past-behind.ensures (leads-refused c.if-n-eq0.true))))
+returns-then-n-eq0 c = leads-here (leads-value (values-hex c.read_hex_digits-n.ensures c.pass.ensures) refl (leads-bad (values-when (eq-eqb _ 0 c.if-n-eq0.true) values-fail) refl refl))
 
-pub overflow_add-n : goal.overflow_add-n
-overflow_add-n c = omega (arith, (hex-room c.args.s.now c.args.st.at c.requires (omega (arith, c.struct_known-1.given)) c.read_hex_digits-n.ensures))
-
-pub overflow_cast-n : goal.overflow_cast-n
-overflow_cast-n c = omega (arith, (hex-room c.args.s.now c.args.st.at c.requires (omega (arith, c.struct_known-1.given)) c.read_hex_digits-n.ensures))
-
-pub returns-in-Is : goal.returns-in-Is
+pub returns-in_err-expect : goal.returns-in_err-expect
 unfolding nested_of
-returns-in-Is c = rw (c.shaped-in-Is.ensures, c.less_one-in-Is.ensures, c.less_one.ensures, less_two c.args.st.at) (leads-here (leads-hex c.read_hex_digits-n.ensures (leads-from c.past-behind.ensures (leads-passed c.if-n-eq0.false (leads-expects "@" c.expect-e.ensures c.in-Is.is (leads-alike alike-stored))))))
+returns-in_err-expect c = leads-here (leads-value (values-hex c.read_hex_digits-n.ensures c.pass.ensures) refl (leads-value (values-else (ne_eqb _ 0 c.if-n-eq0.false) values-ret) refl (leads-bad (values-expect "@" c.expect.ensures) c.in_err-expect.was (handed c.from_residual.ensures))))
 
-pub returns-in-Bad : goal.returns-in-Bad
+pub returns : goal.returns
 unfolding nested_of
-returns-in-Bad c = rw c.shaped-in-Bad.ensures (leads-here (leads-hex c.read_hex_digits-n.ensures (leads-from c.past-behind.ensures (leads-passed c.if-n-eq0.false (leads-expects-bad "@" c.expect-e.ensures c.in-Bad.is)))))
+returns c = rw (c.saturating_sub.ensures, c.from-from.ensures) (leads-here (leads-value (values-hex c.read_hex_digits-n.ensures c.pass.ensures) refl (leads-value (values-else (ne_eqb _ 0 c.if-n-eq0.false) values-ret) refl (leads-value (values-expect "@" c.expect.ensures) c.in_ok-expect.was (leads-alike alike-stored leads-ret)))))

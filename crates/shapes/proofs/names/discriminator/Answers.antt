@@ -1,14 +1,15 @@
 -- Assumes nothing.
-use Rattle.steps.proofs.Leads.{leads-value, leads-bad, leads-alike}
 use Rattle.shapes.proofs.Endings.{alike-unstored}
+use Rattle.steps.proofs.Laws.{handed}
+use Rattle.steps.proofs.Leads.{leads-alike, leads-bad, leads-ret, leads-value}
 use mathlib.Core.Path.{refl}
 use Rattle.grammar.specs.Grammar.{nested_of}
 use Rattle.shapes.proofs.names.discriminator.Goals as goal
 
-pub returns-in-Is : goal.returns-in-Is
+pub returns-in_err-n : goal.returns-in_err-n
 unfolding nested_of
-returns-in-Is c = rw c.shaped.ensures (leads-value c.number-k.ensures c.in-Is.is (leads-alike (alike-unstored refl)))
+returns-in_err-n c = leads-bad c.number.ensures c.in_err-n.was (handed c.from_residual.ensures)
 
-pub returns-in-Bad : goal.returns-in-Bad
+pub returns : goal.returns
 unfolding nested_of
-returns-in-Bad c = rw c.shaped-in-Bad.ensures (leads-bad c.number-k.ensures c.in-Bad.is)
+returns c = leads-value c.number.ensures c.in_ok-n.was (leads-alike (alike-unstored refl) leads-ret)

@@ -1,17 +1,18 @@
 -- Assumes nothing.
-use Rattle.steps.proofs.Leads.{leads-here, leads-value, leads-bad, leads-expects, leads-expects-bad, leads-alike}
 use Rattle.shapes.proofs.Endings.{alike-stored}
+use Rattle.steps.proofs.Laws.{handed, values-expect}
+use Rattle.steps.proofs.Leads.{leads-alike, leads-bad, leads-here, leads-ret, leads-value}
 use Rattle.grammar.specs.Grammar.{nested_of}
 use Rattle.shapes.proofs.names.interface.Goals as goal
 
-pub returns-in-Is-w : goal.returns-in-Is-w
+pub returns-in_err-n : goal.returns-in_err-n
 unfolding nested_of
-returns-in-Is-w c = rw (c.shaped.ensures, c.less_one.ensures) (leads-here (leads-value c.string-k.ensures c.in-Is.is (leads-expects "@" c.expect-e.ensures c.in-Is-w.is (leads-alike alike-stored))))
+returns-in_err-n c = leads-here (leads-bad c.string.ensures c.in_err-n.was (handed c.from_residual.ensures))
 
-pub returns-in-Bad-w : goal.returns-in-Bad-w
+pub returns-in_err-expect : goal.returns-in_err-expect
 unfolding nested_of
-returns-in-Bad-w c = rw c.shaped-in-Bad-w.ensures (leads-here (leads-value c.string-k.ensures c.in-Is.is (leads-expects-bad "@" c.expect-e.ensures c.in-Bad-w.is)))
+returns-in_err-expect c = leads-here (leads-value c.string.ensures c.in_ok-n.was (leads-bad (values-expect "@" c.expect.ensures) c.in_err-expect.was (handed c.from_residual-in_err-expect.ensures)))
 
-pub returns-in-Bad : goal.returns-in-Bad
+pub returns : goal.returns
 unfolding nested_of
-returns-in-Bad c = rw c.shaped-in-Bad.ensures (leads-here (leads-bad c.string-k.ensures c.in-Bad.is))
+returns c = rw (c.saturating_sub.ensures, c.from-from.ensures) (leads-here (leads-value c.string.ensures c.in_ok-n.was (leads-value (values-expect "@" c.expect.ensures) c.in_ok-expect.was (leads-alike alike-stored leads-ret))))

@@ -1,13 +1,14 @@
 -- Assumes nothing.
-use Rattle.steps.proofs.Leads.{leads-here, leads-value, leads-bad, leads-alike}
 use Rattle.shapes.proofs.Endings.{alike-stored}
+use Rattle.steps.proofs.Laws.{handed}
+use Rattle.steps.proofs.Leads.{leads-alike, leads-bad, leads-here, leads-ret, leads-value}
 use Rattle.grammar.specs.Grammar.{plain_name}
 use Rattle.shapes.proofs.names.plain_shape.Goals as goal
 
-pub returns-in-Is : goal.returns-in-Is
+pub returns-in_err-n : goal.returns-in_err-n
 unfolding plain_name
-returns-in-Is c = rw (c.shaped.ensures, c.less_one.ensures) (leads-here (leads-value c.string-k.ensures c.in-Is.is (leads-alike alike-stored)))
+returns-in_err-n c = leads-here (leads-bad c.string.ensures c.in_err-n.was (handed c.from_residual.ensures))
 
-pub returns-in-Bad : goal.returns-in-Bad
+pub returns : goal.returns
 unfolding plain_name
-returns-in-Bad c = rw c.shaped-in-Bad.ensures (leads-here (leads-bad c.string-k.ensures c.in-Bad.is))
+returns c = rw (c.saturating_sub.ensures, c.from-from.ensures) (leads-here (leads-value c.string.ensures c.in_ok-n.was (leads-alike alike-stored leads-ret)))

@@ -1,21 +1,23 @@
 -- Assumes nothing.
-use Rattle.steps.proofs.Leads.{leads-value, leads-bad}
-use Rattle.shapes.proofs.Endings.{behind-type, behind-base, behind-other}
+use native.Mathlib.Omega.{arith}
+use Rattle.shapes.proofs.Endings.{behind-base, behind-other, behind-type}
+use Rattle.steps.proofs.Laws.{handed}
+use Rattle.steps.proofs.Leads.{leads-bad, leads-value}
 use Rattle.grammar.specs.Grammar.{special_name}
 use Rattle.shapes.proofs.names.special_shape.Goals as goal
 
-pub returns-then-op-eq-RTTI_TYPE_DESCRIPTOR : goal.returns-then-op-eq-RTTI_TYPE_DESCRIPTOR
+pub returns-in_err-op : goal.returns-in_err-op
 unfolding special_name
-returns-then-op-eq-RTTI_TYPE_DESCRIPTOR c = leads-value c.operator-k.ensures c.in-Is.is (behind-type c.if-op-eq-RTTI_TYPE_DESCRIPTOR.true c.type_descriptor.ensures)
+returns-in_err-op c = leads-bad c.operator.ensures c.in_err-op.was (handed c.from_residual.ensures)
 
-pub returns-then-op-eq-RTTI_BASE_CLASS_DESCRIPTOR : goal.returns-then-op-eq-RTTI_BASE_CLASS_DESCRIPTOR
+pub returns-in-75 : goal.returns-in-75
 unfolding special_name
-returns-then-op-eq-RTTI_BASE_CLASS_DESCRIPTOR c = leads-value c.operator-k.ensures c.in-Is.is (behind-base c.if-op-eq-RTTI_BASE_CLASS_DESCRIPTOR.true c.base_descriptor.ensures)
+returns-in-75 c = leads-value c.operator.ensures c.in_ok-op.was (behind-type c.in-75.is c.type_descriptor.ensures)
 
-pub returns-else-op-eq-RTTI_BASE_CLASS_DESCRIPTOR : goal.returns-else-op-eq-RTTI_BASE_CLASS_DESCRIPTOR
+pub returns-in-76 : goal.returns-in-76
 unfolding special_name
-returns-else-op-eq-RTTI_BASE_CLASS_DESCRIPTOR c = rw c.special.ensures (leads-value c.operator-k.ensures c.in-Is.is (behind-other c.if-op-eq-RTTI_TYPE_DESCRIPTOR.false c.if-op-eq-RTTI_BASE_CLASS_DESCRIPTOR.false))
+returns-in-76 c = leads-value c.operator.ensures c.in_ok-op.was (behind-base c.in-76.is c.base_descriptor.ensures)
 
-pub returns-in-Bad : goal.returns-in-Bad
+pub returns-in_default : goal.returns-in_default
 unfolding special_name
-returns-in-Bad c = rw c.special-in-Bad.ensures (leads-bad c.operator-k.ensures c.in-Bad.is)
+returns-in_default c = leads-value c.operator.ensures c.in_ok-op.was (behind-other (omega (arith, c.in_default)) (omega (arith, c.in_default)))

@@ -1,18 +1,19 @@
 -- Assumes nothing.
-use Rattle.shapes.proofs.Bounds.{index-small}
-use Rattle.shapes.proofs.Endings.{index-none, index-some, index-bad}
 use native.Mathlib.Omega.{arith}
-use mathlib.Core.Path.{refl}
+use Rattle.steps.proofs.Laws.{handed}
+use Rattle.shapes.proofs.Endings.{index-none, index-some}
+use Rattle.shapes.proofs.Bounds.{index-small}
+use Rattle.steps.proofs.Choices.{values-bad, values-ret, values-then}
 use Rattle.shapes.proofs.symbols.index_and_one.Goals as goal
 
-pub returns-then-s-st : goal.returns-then-s-st
-returns-then-s-st c = index-none c.if-s-st.true refl
+pub returns-then-r-st : goal.returns-then-r-st
+returns-then-r-st c = index-none c.if-r-st.true
+
+pub returns-in_err-index : goal.returns-in_err-index
+returns-in_err-index c = index-some (omega (arith, c.if-r-st.false)) (values-bad c.unsigned.ensures c.in_err-index.was (handed c.from_residual.ensures))
 
 pub overflow_add-result : goal.overflow_add-result
-overflow_add-result c = omega (arith, index-small c.unsigned-k.ensures c.in-Is.is)
+overflow_add-result c = omega (arith, index-small c.unsigned.ensures c.in_ok-index.was)
 
-pub returns-in-Is : goal.returns-in-Is
-returns-in-Is c = index-some (omega (arith, c.if-s-st.false)) c.unsigned-k.ensures c.in-Is.is refl
-
-pub returns-in-Bad : goal.returns-in-Bad
-returns-in-Bad c = index-bad (omega (arith, c.if-s-st.false)) c.unsigned-k.ensures c.in-Bad.is
+pub returns : goal.returns
+returns c = index-some (omega (arith, c.if-r-st.false)) (values-then c.unsigned.ensures c.in_ok-index.was values-ret)

@@ -1,11 +1,11 @@
 -- Assumes nothing.
+use native.Mathlib.Omega.{arith}
 use Rattle.shapes.proofs.Begun.{leads-parse}
 use Rattle.shapes.proofs.Bounds.{parse-room}
-use native.Mathlib.Omega.{arith}
 use Rattle.shapes.proofs.symbols.parse_form.Goals as goal
 
-pub past-requires : goal.past-requires
-past-requires c = parse-room c.args.s.now c.args.st.at c.requires (omega (arith, c.struct_known-1.given)) c.parse_start-b.ensures
+pub pass-requires : goal.pass-requires
+pass-requires c = parse-room c.args.r.s.now c.args.st.now.at c.args.r.short (omega arith) c.parse_start-start.ensures
 
 pub returns : goal.returns
-returns c = rw c.past.ensures (leads-parse c.parse_start-b.ensures)
+returns c = rw c.pass.ensures (leads-parse c.parse_start-start.ensures)

@@ -1,12 +1,13 @@
 -- Assumes nothing.
-use Rattle.steps.proofs.Leads.{leads-on, leads-from}
-use Rattle.shapes.proofs.Begun.{leads-symbol}
-use Rattle.shapes.proofs.Bounds.{symbol-room}
 use native.Mathlib.Omega.{arith}
+use Rattle.steps.proofs.Leads.{leads-from, leads-on}
+use Rattle.shapes.proofs.Begun.{leads-symbol}
+use mathlib.Core.Path.{refl}
+use Rattle.shapes.proofs.Bounds.{symbol-room}
 use Rattle.shapes.proofs.symbols.symbol_shape.Goals as goal
 
-pub past-requires : goal.past-requires
-past-requires c = symbol-room c.args.s.now c.args.st.at c.requires (omega (arith, c.struct_known-1.given)) c.symbol_start-b.ensures
+pub pass-requires : goal.pass-requires
+pass-requires c = symbol-room c.args.r.s.now c.args.st.now.at c.args.r.short (omega arith) c.symbol_start-start.ensures
 
 pub returns : goal.returns
-returns c = leads-on (leads-symbol c.symbol_start-b.ensures) (leads-from c.past.ensures c.form_shape.ensures)
+returns c = leads-on (leads-symbol c.symbol_start-start.ensures) refl (leads-from c.pass.ensures c.form_shape.ensures)

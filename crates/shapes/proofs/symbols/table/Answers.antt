@@ -1,6 +1,7 @@
 -- Assumes nothing.
-use Rattle.steps.proofs.Leads.{leads-refl, leads-class}
+use Rattle.steps.proofs.Leads.{leads-ret, leads-value}
+use mathlib.Core.Path.{refl}
 use Rattle.shapes.proofs.symbols.table.Goals as goal
 
 pub returns : goal.returns
-returns c = rw c.shaped.ensures (leads-class c.qualifier-q.ensures leads-refl)
+returns c = leads-value c.qualifier.ensures refl leads-ret

@@ -1,12 +1,13 @@
 -- Assumes nothing.
-use Rattle.steps.proofs.Leads.{leads-refl, leads-expects, leads-expects-bad}
+use Rattle.steps.proofs.Laws.{handed, values-expect}
+use Rattle.steps.proofs.Leads.{leads-bad, leads-ret, leads-value}
 use Rattle.grammar.specs.Grammar.{form_type}
 use Rattle.shapes.proofs.types.member_pointer.Goals as goal
 
-pub returns-in-Is : goal.returns-in-Is
+pub returns-in_err-expect : goal.returns-in_err-expect
 unfolding form_type
-returns-in-Is c = rw c.shape_at.ensures (leads-expects "?" c.expect-e.ensures c.in-Is.is leads-refl)
+returns-in_err-expect c = leads-bad (values-expect "?" c.expect.ensures) c.in_err-expect.was (handed c.from_residual.ensures)
 
-pub returns-in-Bad : goal.returns-in-Bad
+pub returns : goal.returns
 unfolding form_type
-returns-in-Bad c = rw c.shape_at-in-Bad.ensures (leads-expects-bad "?" c.expect-e.ensures c.in-Bad.is)
+returns c = leads-value (values-expect "?" c.expect.ensures) c.in_ok-expect.was leads-ret

@@ -1,9 +1,10 @@
 -- Assumes nothing.
-use Rattle.steps.proofs.Leads.{leads-refl, leads-value, leads-bad}
+use Rattle.steps.proofs.Laws.{handed}
+use Rattle.steps.proofs.Leads.{leads-bad, leads-ret, leads-value}
 use Rattle.shapes.proofs.types.numbered.Goals as goal
 
-pub returns-in-Is : goal.returns-in-Is
-returns-in-Is c = rw c.shape_at.ensures (leads-value c.number-k.ensures c.in-Is.is leads-refl)
+pub returns-in_err-n : goal.returns-in_err-n
+returns-in_err-n c = leads-bad c.number.ensures c.in_err-n.was (handed c.from_residual.ensures)
 
-pub returns-in-Bad : goal.returns-in-Bad
-returns-in-Bad c = rw c.shape_at-in-Bad.ensures (leads-bad c.number-k.ensures c.in-Bad.is)
+pub returns : goal.returns
+returns c = leads-value c.number.ensures c.in_ok-n.was leads-ret

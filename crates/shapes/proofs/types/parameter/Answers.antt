@@ -1,12 +1,20 @@
 -- Assumes nothing.
-use Rattle.steps.proofs.Leads.{leads-refl, leads-value, leads-bad}
+use mathlib.Core.Path.{ap}
+use native.Mathlib.Omega.{arith}
+use Rattle.steps.proofs.Laws.{handed}
+use Rattle.steps.proofs.Leads.{leads-as, leads-bad, leads-ret, leads-value}
 use Rattle.grammar.specs.Grammar.{letter_type}
+use Prim.Native.Nat.{ℕ}
+use mathlib.Core.List.{[], ◌∷◌}
+use mathlib.Core.Path.{◌≡◌}
+use Rattle.grammar.specs.Program.{ret, node}
+use Rattle.grammar.specs.Words.{negated}
 use Rattle.shapes.proofs.types.parameter.Goals as goal
 
-pub returns-in-Is : goal.returns-in-Is
+pub returns-in_err-n : goal.returns-in_err-n
 unfolding letter_type
-returns-in-Is c = rw c.shape_at.ensures (leads-value c.number-k.ensures c.in-Is.is leads-refl)
+returns-in_err-n c = leads-bad c.number.ensures c.in_err-n.was (handed c.from_residual.ensures)
 
-pub returns-in-Bad : goal.returns-in-Bad
+pub returns : goal.returns
 unfolding letter_type
-returns-in-Bad c = rw c.shape_at-in-Bad.ensures (leads-bad c.number-k.ensures c.in-Bad.is)
+returns c = leads-value c.number.ensures c.in_ok-n.was (let e : negated c.in_ok-n.n ≡ c.wrapping_neg.result = omega (arith, c.wrapping_neg.ensures) in leads-as (ap (λ (x : ℕ). node 24 (x ∷ []) [] ret) e) leads-ret)
