@@ -21,10 +21,11 @@
 // `st`; and `depth`, how many more parts may open: of all limits it alone falls.
 #![tactic(auto)]
 
-ghost use Rattle.std.specs.Prelude.{◌≡◌, ◌-◌, ◌+◌, length};
+ghost use Rattle.std.specs.Prelude.{◌≡◌, ◌-◌, ◌+◌, true, eqb, length};
+ghost use Rattle.scan.specs.Bytes.{pick};
 ghost use Rattle.forms.specs.Begins.{parse_forms};
 ghost use Rattle.forms.specs.declared.begins.ParseForm.TheVariants.{Guard, Template, Name};
-ghost use Rattle.grammar.specs.Words.{digit, ordered};
+ghost use Rattle.grammar.specs.Words.{digit, ordered, negative};
 ghost use Rattle.grammar.specs.Grammar as tags;
 ghost use Rattle.grammar.specs.Grammar.{VarType, Unqualified, Nested, Parse, OuterTemplate, OuterName, OuterGuard, SymbolType, var_type, func_type, member_function_pointer, array, dimensions, element, func_return_type, func_params, params, stored_param, new_param, scope, template_name, unqualified_name, special_name, nested_name, parse_of};
 ghost use Rattle.steps.specs.Does.{Does, Reads};
@@ -74,7 +75,8 @@ fn ty(r: Reader, t: &mut [u32], st: &mut State, depth: u16, sc: u32) -> Result<u
     ensures { Reads r.entry depth (VarType sc) st.old t.old result st.new t.new }
 {
     let left = r.open(st, depth)?;
-    match type_shape(r, st, sc)? {
+    let shape = type_shape(r, st, sc)?;
+    match shape {
         Shape::Named(kind, function, class) => named(r, t, st, left, kind, function, class),
         Shape::Pointing(kind, class) => point(r, t, st, left, kind, class),
         Shape::ToFunction(kind, class) => tofn(r, t, st, left, kind, class),
@@ -216,13 +218,20 @@ fn strt(r: Reader, t: &mut [u32], st: &mut State, depth: u16, sc: u32) -> Result
     vtype(r, t, st, depth, sc)
 }
 
+// Whether a number counts no dimensions: it is 0 or negative.
+fn is_no_dimension(n: u32) -> bool
+    ensures { result ≡ pick (eqb n 0) true (negative n) }
+{
+    n == 0 || 0x8000_0000 <= n
+}
+
 // read_array
 #[cycle(readers)]
 fn array(r: Reader, t: &mut [u32], st: &mut State, depth: u16) -> Result<u16, Refusal>
     ensures { Does r.entry depth array st.old t.old result st.new t.new }
 {
     let n = r.number(st)?;
-    if n == 0 || 0x8000_0000 <= n {
+    if is_no_dimension(n) {
         return Err(Refusal::Syntax);
     }
     let (a, _) = dims(r, t, st, depth, n)?;
@@ -288,7 +297,8 @@ fn params(r: Reader, t: &mut [u32], st: &mut State, depth: u16) -> Result<u16, R
     ensures { Does r.entry depth params st.old t.old result st.new t.new }
 {
     let mut last = 0u16;
-    for _ in 0..turns(r.s, st.at) {
+    let most = turns(r.s, st.at);
+    for _ in 0..most {
         if list_stops(r.s, st.at) {
             return list_end(r, t, st, depth, last);
         }
@@ -321,7 +331,8 @@ fn scope(r: Reader, t: &mut [u32], st: &mut State, depth: u16) -> Result<u16, Re
     ensures { Does r.entry depth scope st.old t.old result st.new t.new }
 {
     let mut last = 0u16;
-    for _ in 0..turns(r.s, st.at) {
+    let most = turns(r.s, st.at);
+    for _ in 0..most {
         if r.consume(st, b"@") {
             return Ok(last);
         }
@@ -425,7 +436,8 @@ fn unq(
     ensures { Reads r.entry depth (Unqualified function) st.old t.old result st.new t.new }
 {
     let left = r.open(st, depth)?;
-    match unqualified_shape(r, st)? {
+    let shape = unqualified_shape(r, st)?;
+    match shape {
         UnqualifiedShape::Template => {
             let n = tmpl(r, t, st, left)?;
             if !function {
@@ -446,7 +458,8 @@ fn unq(
 fn special(r: Reader, t: &mut [u32], st: &mut State, depth: u16) -> Result<(u16, bool), Refusal>
     ensures { Does r.entry depth special_name st.old t.old result st.new t.new }
 {
-    match special_shape(r, st)? {
+    let shape = special_shape(r, st)?;
+    match shape {
         SpecialShape::Operator(op) => {
             let n = r.shut_leaf(t, st, kinds::OPERATOR, op, 0)?;
             Ok((n, is_guard(op)))
@@ -488,7 +501,8 @@ fn nested(r: Reader, t: &mut [u32], st: &mut State, depth: u16) -> Result<u16, R
     ensures { Reads r.entry depth Nested st.old t.old result st.new t.new }
 {
     let left = r.open(st, depth)?;
-    match name_shape(r, st)? {
+    let shape = name_shape(r, st)?;
+    match shape {
         NameShape::Stored(i) => name_of(st, i),
         NameShape::Parsed => {
             let n = parse(r, t, st, left)?;
@@ -607,7 +621,8 @@ fn sym(r: Reader, t: &mut [u32], st: &mut State, depth: u16) -> Result<u16, Refu
     ensures { Reads r.entry depth SymbolType st.old t.old result st.new t.new }
 {
     let left = r.open(st, depth)?;
-    match symbol_shape(r, st)? {
+    let shape = symbol_shape(r, st)?;
+    match shape {
         SymbolShape::Variable(kind) => var(r, t, st, left, kind),
         SymbolShape::Table(kind, p) => {
             let l = scope(r, t, st, left)?;

@@ -16,7 +16,7 @@ use Rattle.grammar.specs.declared.Refusal.TheVariants.{Syntax}
 use Rattle.steps.specs.Does.{runs, Does, Leads}
 use Rattle.steps.specs.declared.reader.Reader.{Reader}
 
-onward-assoc :
+pub onward-assoc :
     {A B C T : Type 0} (r : Reply C) (st : State) (t : T) (f : C → State → T → Out B T) (h : B → State → T → Out A T) →
     onward (onward r st t f).reply (onward r st t f).state (onward r st t f).cells h ≡ onward r st t (λ c st t. onward (f c st t).reply (f c st t).state (f c st t).cells h)
 onward-assoc (found c) st t f h = refl

@@ -1,14 +1,13 @@
 -- The readers call each other: each does what its production says.
 -- Assumes nothing.
-use Prim.Native.Nat.{◌-◌}
-use borrow.Author.Tests.{ne_eqb, le-leb, lt-leb}
-use mathlib.Core.Path.{◌∙◌, refl, sym, ap}
+use Prim.Native.Nat.{◌+◌, ◌-◌, ◌<◌, ◌≤◌}
+use mathlib.Core.Path.{◌≡◌, ◌∙◌, refl, sym, ap}
 use mathlib.Core.List.{[], ◌∷◌}
 use mathlib.Core.Bool.{Bool}
 use native.Mathlib.Omega.{arith}
 use Rattle.std.specs.Prelude.{Ok}
 use Rattle.grammar.specs.Words.{name_of}
-use Rattle.grammar.specs.Grammar.{array, body, Dimension, dimensions, element, NoParams, func_params, member_function_pointer, name_body, stored_param, new_param, parse_of, GuardType, pointee, NoReturn, func_return_type, template_name, stored}
+use Rattle.grammar.specs.Grammar.{array, body, Dimension, Func, dimensions, element, NoParams, func_params, member_function_pointer, name_body, stored_param, new_param, parse_of, GuardType, pointee, NoReturn, func_return_type, template_name, stored}
 use Rattle.steps.proofs.Laws.{handed, does-ret, does-sub, sub-refused, does-part, does-finds, does-keeps, does-value, value-bad, values-expect, on-there, on-absent, on-digit, no_digit, on-reference, no-reference, opens-less, reads-deep, reads-body, closes}
 use Rattle.steps.proofs.More.{does-as, does-leads, leads-refused, does-here, does-memo, does-set, does-inner, does-given, does-chosen, does-other, does-refuse, does-pass, nested-last, nested-more}
 use Rattle.ends.proofs.Parts.{reads-opens}
@@ -25,37 +24,37 @@ vtype-returns-in-None t c = no-reference c.args.sc c.reference.ensures c.in-None
 pub ty-returns-in_err-left : goal.ty-returns-in_err-left
 ty-returns-in_err-left t c = reads-deep c.open.ensures c.in_err-left.was (handed c.from_residual.ensures)
 
-pub ty-returns-in_err-type_shape : goal.ty-returns-in_err-type_shape
+pub ty-returns-in_err-shape : goal.ty-returns-in_err-shape
 unfolding body
-ty-returns-in_err-type_shape t c = reads-body c.open.ensures c.in_ok-left.was (leads-refused c.type_shape.ensures c.in_err-type_shape.was (handed c.from_residual-in_err-type_shape.ensures))
+ty-returns-in_err-shape t c = reads-body c.open.ensures c.in_ok-left.was (leads-refused c.type_shape.ensures c.in_err-shape.was (handed c.from_residual-in_err-shape.ensures))
 
 pub ty-returns-in-Named : goal.ty-returns-in-Named
 unfolding body
-ty-returns-in-Named t c = reads-body c.open.ensures c.in_ok-left.was (does-leads c.type_shape.ensures (c.in_ok-type_shape.was ∙ ap Ok c.in-Named.is) c.named.ensures)
+ty-returns-in-Named t c = reads-body c.open.ensures c.in_ok-left.was (does-leads c.type_shape.ensures (c.in_ok-shape.was ∙ ap Ok c.in-Named.is) c.named.ensures)
 
 pub ty-returns-in-Pointing : goal.ty-returns-in-Pointing
 unfolding body
-ty-returns-in-Pointing t c = reads-body c.open.ensures c.in_ok-left.was (does-leads c.type_shape.ensures (c.in_ok-type_shape.was ∙ ap Ok c.in-Pointing.is) c.point.ensures)
+ty-returns-in-Pointing t c = reads-body c.open.ensures c.in_ok-left.was (does-leads c.type_shape.ensures (c.in_ok-shape.was ∙ ap Ok c.in-Pointing.is) c.point.ensures)
 
 pub ty-returns-in-ToFunction : goal.ty-returns-in-ToFunction
 unfolding body
-ty-returns-in-ToFunction t c = reads-body c.open.ensures c.in_ok-left.was (does-leads c.type_shape.ensures (c.in_ok-type_shape.was ∙ ap Ok c.in-ToFunction.is) c.tofn.ensures)
+ty-returns-in-ToFunction t c = reads-body c.open.ensures c.in_ok-left.was (does-leads c.type_shape.ensures (c.in_ok-shape.was ∙ ap Ok c.in-ToFunction.is) c.tofn.ensures)
 
 pub ty-returns-in-Member : goal.ty-returns-in-Member
 unfolding body
-ty-returns-in-Member t c = reads-body c.open.ensures c.in_ok-left.was (does-leads c.type_shape.ensures (c.in_ok-type_shape.was ∙ ap Ok c.in-Member.is) c.mptr.ensures)
+ty-returns-in-Member t c = reads-body c.open.ensures c.in_ok-left.was (does-leads c.type_shape.ensures (c.in_ok-shape.was ∙ ap Ok c.in-Member.is) c.mptr.ensures)
 
 pub ty-returns-in-Function : goal.ty-returns-in-Function
 unfolding body
-ty-returns-in-Function t c = reads-body c.open.ensures c.in_ok-left.was (does-leads c.type_shape.ensures (c.in_ok-type_shape.was ∙ ap Ok c.in-Function.is) c.func.ensures)
+ty-returns-in-Function t c = reads-body c.open.ensures c.in_ok-left.was (does-leads c.type_shape.ensures (c.in_ok-shape.was ∙ ap Ok c.in-Function.is) c.func.ensures)
 
 pub ty-returns-in-Array : goal.ty-returns-in-Array
 unfolding body
-ty-returns-in-Array t c = reads-body c.open.ensures c.in_ok-left.was (does-leads c.type_shape.ensures (c.in_ok-type_shape.was ∙ ap Ok c.in-Array.is) c.array.ensures)
+ty-returns-in-Array t c = reads-body c.open.ensures c.in_ok-left.was (does-leads c.type_shape.ensures (c.in_ok-shape.was ∙ ap Ok c.in-Array.is) c.array.ensures)
 
 pub ty-returns-in-Leaf : goal.ty-returns-in-Leaf
 unfolding body
-ty-returns-in-Leaf t c = reads-body c.open.ensures c.in_ok-left.was (does-leads c.type_shape.ensures (c.in_ok-type_shape.was ∙ ap Ok c.in-Leaf.is) (closes c.shut_leaf.ensures refl refl))
+ty-returns-in-Leaf t c = reads-body c.open.ensures c.in_ok-left.was (does-leads c.type_shape.ensures (c.in_ok-shape.was ∙ ap Ok c.in-Leaf.is) (closes c.shut_leaf.ensures refl refl))
 
 pub named-returns-in_err-n : goal.named-returns-in_err-n
 named-returns-in_err-n t c = does-inner (sub-refused (does-part c.name.ensures) c.in_err-n.was (handed c.from_residual.ensures))
@@ -72,15 +71,15 @@ unfolding pointee
 point-returns t c = does-inner (does-value c.pointee_class-sc.ensures refl (does-sub c.vtype.ensures c.in_ok-n.was (closes c.above.ensures refl refl)))
 
 pub tofn-returns-in_err-left : goal.tofn-returns-in_err-left
-tofn-returns-in_err-left t c = sub-refused (does-part (reads-deep c.open.ensures c.in_err-left.was refl)) refl (handed c.from_residual.ensures)
+tofn-returns-in_err-left t c = sub-refused (does-part {tag = Func} (reads-deep c.open.ensures c.in_err-left.was refl)) refl (handed c.from_residual.ensures)
 
 pub tofn-returns-in_err-n : goal.tofn-returns-in_err-n
 unfolding body
-tofn-returns-in_err-n t c = sub-refused (does-part (reads-body c.open.ensures c.in_ok-left.was c.func.ensures)) c.in_err-n.was (handed c.from_residual-in_err-n.ensures)
+tofn-returns-in_err-n t c = sub-refused (does-part {tag = Func} (reads-body c.open.ensures c.in_ok-left.was c.func.ensures)) c.in_err-n.was (handed c.from_residual-in_err-n.ensures)
 
 pub tofn-returns : goal.tofn-returns
 unfolding body
-tofn-returns t c = does-sub (does-part (reads-body c.open.ensures c.in_ok-left.was c.func.ensures)) c.in_ok-n.was (closes c.above.ensures refl refl)
+tofn-returns t c = does-sub (does-part {tag = Func} (reads-body c.open.ensures c.in_ok-left.was c.func.ensures)) c.in_ok-n.was (closes c.above.ensures refl refl)
 
 pub func-returns-in_err-x : goal.func-returns-in_err-x
 func-returns-in_err-x t c = leads-refused c.function_head.ensures c.in_err-x.was (handed c.from_residual.ensures)
@@ -127,21 +126,17 @@ pub array-returns-in_err-n : goal.array-returns-in_err-n
 unfolding array
 array-returns-in_err-n t c = value-bad c.number.ensures c.in_err-n.was (handed c.from_residual.ensures)
 
-pub array-returns-then-n-eq0 : goal.array-returns-then-n-eq0
+pub array-returns-then-is_no_dimension : goal.array-returns-then-is_no_dimension
 unfolding array
-array-returns-then-n-eq0 t c = does-value c.number.ensures c.in_ok-n.was (does-refuse (rw c.if-n-eq0.true))
-
-pub array-returns-then-n-ge2147483648 : goal.array-returns-then-n-ge2147483648
-unfolding array
-array-returns-then-n-ge2147483648 t c = does-value c.number.ensures c.in_ok-n.was (does-refuse (rw (ne_eqb _ _ c.if-n-eq0.false, le-leb _ _ c.if-n-ge2147483648.true)))
+array-returns-then-is_no_dimension t c = does-value c.number.ensures c.in_ok-n.was (does-refuse (sym c.is_no_dimension.ensures ∙ c.if-is_no_dimension.true))
 
 pub array-returns-in_err-a : goal.array-returns-in_err-a
 unfolding array
-array-returns-in_err-a t c = does-value c.number.ensures c.in_ok-n.was (does-pass (rw (ne_eqb _ _ c.if-n-eq0.false, lt-leb _ _ c.if-n-ge2147483648.false)) (sub-refused c.dims.ensures c.in_err-a.was (handed c.from_residual-in_err-a.ensures)))
+array-returns-in_err-a t c = does-value c.number.ensures c.in_ok-n.was (does-pass (sym c.is_no_dimension.ensures ∙ c.if-is_no_dimension.false) (sub-refused c.dims.ensures c.in_err-a.was (handed c.from_residual-in_err-a.ensures)))
 
 pub array-returns : goal.array-returns
 unfolding array
-array-returns t c = does-value c.number.ensures c.in_ok-n.was (does-pass (rw (ne_eqb _ _ c.if-n-eq0.false, lt-leb _ _ c.if-n-ge2147483648.false)) (does-sub c.dims.ensures c.in_ok-a.was does-ret))
+array-returns t c = does-value c.number.ensures c.in_ok-n.was (does-pass (sym c.is_no_dimension.ensures ∙ c.if-is_no_dimension.false) (does-sub c.dims.ensures c.in_ok-a.was does-ret))
 
 pub dims-returns-in_err-len : goal.dims-returns-in_err-len
 unfolding dimensions
@@ -165,7 +160,7 @@ dims-returns-in_err-inner-2 t c = does-value c.number.ensures c.in_ok-len.was (s
 
 pub dims-returns : goal.dims-returns
 unfolding dimensions body
-dims-returns t c = does-value c.number.ensures c.in_ok-len.was (does-sub (does-as (nested-more c.args.dimension c.if-dimension-le1.false) (does-part {tag = Dimension (c.args.dimension - 1)} (reads-body c.open.ensures c.in_ok-left.was c.dims.ensures))) c.in_ok-inner-2.was (c.array_end-in_ok-inner-2.ensures _))
+dims-returns t c = does-value c.number.ensures c.in_ok-len.was (does-sub (does-as (nested-more c.args.dimension c.if-dimension-le1.false) (does-part {tag = Dimension (c.args.dimension - 1)} (reads-body c.open.ensures c.in_ok-left.was c.dims.ensures))) c.in_ok-inner-2.was (c.array_end-2.ensures _))
 
 pub elem-returns-in_err-class : goal.elem-returns-in_err-class
 unfolding element
@@ -202,21 +197,21 @@ plist-returns-then-consume t c = on-there "X" (sym c.consume.ensures ∙ c.if-co
 pub plist-returns : goal.plist-returns
 plist-returns t c = on-absent "X" (sym c.consume.ensures ∙ c.if-consume.false) c.params.ensures
 
-pub param-returns-in_err-n : goal.param-returns-in_err-n
+pub param-returns-in_err-n-in-Some : goal.param-returns-in_err-n-in-Some
 unfolding stored_param
-param-returns-in_err-n t c = on-digit (stored_param c.args.last) c.digit.ensures c.in-Some.is (sub-refused (does-finds c.type_of.ensures) c.in_err-n.was (handed c.from_residual.ensures))
+param-returns-in_err-n-in-Some t c = on-digit (stored_param c.args.last) c.digit.ensures c.in-Some.is (sub-refused (does-finds c.type_of.ensures) c.in_err-n-in-Some.was (handed c.from_residual.ensures))
 
-pub param-returns-in-Some : goal.param-returns-in-Some
+pub param-returns-in_ok-n-in-Some : goal.param-returns-in_ok-n-in-Some
 unfolding stored_param
-param-returns-in-Some t c = on-digit (stored_param c.args.last) c.digit.ensures c.in-Some.is (does-sub (does-finds c.type_of.ensures) c.in_ok-n.was (c.place.ensures _))
+param-returns-in_ok-n-in-Some t c = on-digit (stored_param c.args.last) c.digit.ensures c.in-Some.is (does-sub (does-finds c.type_of.ensures) c.in_ok-n-in-Some.was (c.place.ensures _))
 
-pub param-returns-in_err-n-2 : goal.param-returns-in_err-n-2
+pub param-returns-in_err-n-in-None : goal.param-returns-in_err-n-in-None
 unfolding new_param
-param-returns-in_err-n-2 t c = no_digit (stored_param c.args.last) c.digit.ensures c.in-None.is (does-here (sub-refused c.vtype.ensures c.in_err-n-2.was (handed c.from_residual-in_err-n-2.ensures)))
+param-returns-in_err-n-in-None t c = no_digit (stored_param c.args.last) c.digit.ensures c.in-None.is (does-here (sub-refused c.vtype.ensures c.in_err-n-in-None.was (handed c.from_residual-in_err-n-in-None.ensures)))
 
-pub param-returns-in-None : goal.param-returns-in-None
+pub param-returns-in_ok-n-in-None : goal.param-returns-in_ok-n-in-None
 unfolding new_param
-param-returns-in-None t c = no_digit (stored_param c.args.last) c.digit.ensures c.in-None.is (does-here (does-sub c.vtype.ensures c.in_ok-n-2.was (c.param_end.ensures _)))
+param-returns-in_ok-n-in-None t c = no_digit (stored_param c.args.last) c.digit.ensures c.in-None.is (does-here (does-sub c.vtype.ensures c.in_ok-n-in-None.was (c.param_end.ensures _)))
 
 pub sname-returns-in_err-n : goal.sname-returns-in_err-n
 sname-returns-in_err-n t c = sub-refused c.nname.ensures c.in_err-n.was (handed c.from_residual.ensures)
@@ -255,11 +250,11 @@ pub name-returns : goal.name-returns
 unfolding body name_body
 name-returns t c = reads-body c.open.ensures c.in_ok-left.was (does-sub c.unqn.ensures c.in_ok-n.was (does-sub c.scope.ensures c.in_ok-l.was (does-sub (closes c.shut.ensures.shuts (rw (c.to-a.ensures, c.from-b.ensures)) refl) c.in_ok-s.was does-ret)))
 
-pub unqn-returns-in_err-n : goal.unqn-returns-in_err-n
-unqn-returns-in_err-n t c = on-digit stored c.digit.ensures c.in-Some.is (sub-refused (does-finds c.name_of.ensures) c.in_err-n.was (handed c.from_residual.ensures))
+pub unqn-returns-in_err-n-in-Some : goal.unqn-returns-in_err-n-in-Some
+unqn-returns-in_err-n-in-Some t c = on-digit stored c.digit.ensures c.in-Some.is (sub-refused (does-finds c.name_of.ensures) c.in_err-n-in-Some.was (handed c.from_residual.ensures))
 
-pub unqn-returns-in-Some : goal.unqn-returns-in-Some
-unqn-returns-in-Some t c = on-digit stored c.digit.ensures c.in-Some.is (does-sub (does-finds c.name_of.ensures) c.in_ok-n.was does-ret)
+pub unqn-returns-in_ok-n-in-Some : goal.unqn-returns-in_ok-n-in-Some
+unqn-returns-in_ok-n-in-Some t c = on-digit stored c.digit.ensures c.in-Some.is (does-sub (does-finds c.name_of.ensures) c.in_ok-n-in-Some.was does-ret)
 
 pub unqn-returns-in-None : goal.unqn-returns-in-None
 unqn-returns-in-None t c = no_digit stored c.digit.ensures c.in-None.is (does-part c.unq.ensures)
@@ -267,57 +262,57 @@ unqn-returns-in-None t c = no_digit stored c.digit.ensures c.in-None.is (does-pa
 pub unq-returns-in_err-left : goal.unq-returns-in_err-left
 unq-returns-in_err-left t c = reads-deep c.open.ensures c.in_err-left.was (handed c.from_residual.ensures)
 
-pub unq-returns-in_err-unqualified_shape : goal.unq-returns-in_err-unqualified_shape
+pub unq-returns-in_err-shape : goal.unq-returns-in_err-shape
 unfolding body
-unq-returns-in_err-unqualified_shape t c = reads-body c.open.ensures c.in_ok-left.was (leads-refused (c.unqualified_shape.ensures c.args.function) c.in_err-unqualified_shape.was (handed c.from_residual-in_err-unqualified_shape.ensures))
+unq-returns-in_err-shape t c = reads-body c.open.ensures c.in_ok-left.was (leads-refused (c.unqualified_shape.ensures c.args.function) c.in_err-shape.was (handed c.from_residual-in_err-shape.ensures))
 
-pub unq-returns-in_err-n : goal.unq-returns-in_err-n
+pub unq-returns-in_err-n-in-Template : goal.unq-returns-in_err-n-in-Template
 unfolding body
-unq-returns-in_err-n t c = reads-body c.open.ensures c.in_ok-left.was (does-leads (c.unqualified_shape.ensures c.args.function) (c.in_ok-unqualified_shape.was ∙ ap Ok c.in-Template.is) (sub-refused c.tmpl.ensures c.in_err-n.was (handed c.from_residual-in_err-n.ensures)))
+unq-returns-in_err-n-in-Template t c = reads-body c.open.ensures c.in_ok-left.was (does-leads (c.unqualified_shape.ensures c.args.function) (c.in_ok-shape.was ∙ ap Ok c.in-Template.is) (sub-refused c.tmpl.ensures c.in_err-n-in-Template.was (handed c.from_residual-in_err-n-in-Template.ensures)))
 
-pub unq-returns-then-function : goal.unq-returns-then-function
+pub unq-returns-then-not-function : goal.unq-returns-then-not-function
 unfolding body
-unq-returns-then-function t c = reads-body c.open.ensures c.in_ok-left.was (does-leads (c.unqualified_shape.ensures c.args.function) (c.in_ok-unqualified_shape.was ∙ ap Ok c.in-Template.is) (does-sub c.tmpl.ensures c.in_ok-n.was (does-other c.if-function.false (does-keeps c.memorize_name.ensures does-ret))))
+unq-returns-then-not-function t c = reads-body c.open.ensures c.in_ok-left.was (does-leads (c.unqualified_shape.ensures c.args.function) (c.in_ok-shape.was ∙ ap Ok c.in-Template.is) (does-sub c.tmpl.ensures c.in_ok-n-in-Template.was (does-other c.if-not-function.true (does-keeps c.memorize_name.ensures does-ret))))
 
-pub unq-returns-else-function : goal.unq-returns-else-function
+pub unq-returns-else-not-function : goal.unq-returns-else-not-function
 unfolding body
-unq-returns-else-function t c = reads-body c.open.ensures c.in_ok-left.was (does-leads (c.unqualified_shape.ensures c.args.function) (c.in_ok-unqualified_shape.was ∙ ap Ok c.in-Template.is) (does-sub c.tmpl.ensures c.in_ok-n.was (does-chosen c.if-function.true (does-given does-ret))))
+unq-returns-else-not-function t c = reads-body c.open.ensures c.in_ok-left.was (does-leads (c.unqualified_shape.ensures c.args.function) (c.in_ok-shape.was ∙ ap Ok c.in-Template.is) (does-sub c.tmpl.ensures c.in_ok-n-in-Template.was (does-chosen c.if-not-function.false (does-given does-ret))))
 
 pub unq-returns-in-Special : goal.unq-returns-in-Special
 unfolding body
-unq-returns-in-Special t c = reads-body c.open.ensures c.in_ok-left.was (does-leads (c.unqualified_shape.ensures c.args.function) (c.in_ok-unqualified_shape.was ∙ ap Ok c.in-Special.is) (c.special.ensures))
+unq-returns-in-Special t c = reads-body c.open.ensures c.in_ok-left.was (does-leads (c.unqualified_shape.ensures c.args.function) (c.in_ok-shape.was ∙ ap Ok c.in-Special.is) (c.special.ensures))
 
-pub unq-returns-in_err-n-2 : goal.unq-returns-in_err-n-2
+pub unq-returns-in_err-n-in-Plain : goal.unq-returns-in_err-n-in-Plain
 unfolding body
-unq-returns-in_err-n-2 t c = reads-body c.open.ensures c.in_ok-left.was (does-leads (c.unqualified_shape.ensures c.args.function) (c.in_ok-unqualified_shape.was ∙ ap Ok c.in-Plain.is) (sub-refused (c.leaf_name.ensures _) c.in_err-n-2.was (handed c.from_residual-in_err-n-2.ensures)))
+unq-returns-in_err-n-in-Plain t c = reads-body c.open.ensures c.in_ok-left.was (does-leads (c.unqualified_shape.ensures c.args.function) (c.in_ok-shape.was ∙ ap Ok c.in-Plain.is) (sub-refused (c.leaf_name.ensures _) c.in_err-n-in-Plain.was (handed c.from_residual-in_err-n-in-Plain.ensures)))
 
-pub unq-returns-in-Plain : goal.unq-returns-in-Plain
+pub unq-returns-in_ok-n-in-Plain : goal.unq-returns-in_ok-n-in-Plain
 unfolding body
-unq-returns-in-Plain t c = reads-body c.open.ensures c.in_ok-left.was (does-leads (c.unqualified_shape.ensures c.args.function) (c.in_ok-unqualified_shape.was ∙ ap Ok c.in-Plain.is) (does-sub (c.leaf_name.ensures _) c.in_ok-n-2.was does-ret))
+unq-returns-in_ok-n-in-Plain t c = reads-body c.open.ensures c.in_ok-left.was (does-leads (c.unqualified_shape.ensures c.args.function) (c.in_ok-shape.was ∙ ap Ok c.in-Plain.is) (does-sub (c.leaf_name.ensures _) c.in_ok-n-in-Plain.was does-ret))
 
-pub special-returns-in_err-special_shape : goal.special-returns-in_err-special_shape
-special-returns-in_err-special_shape t c = leads-refused c.special_shape.ensures c.in_err-special_shape.was (handed c.from_residual.ensures)
+pub special-returns-in_err-shape : goal.special-returns-in_err-shape
+special-returns-in_err-shape t c = leads-refused c.special_shape.ensures c.in_err-shape.was (handed c.from_residual.ensures)
 
-pub special-returns-in_err-n : goal.special-returns-in_err-n
-special-returns-in_err-n t c = does-leads c.special_shape.ensures (c.in_ok-special_shape.was ∙ ap Ok c.in-Operator.is) (sub-refused (closes c.shut_leaf.ensures refl refl) c.in_err-n.was (handed c.from_residual-in_err-n.ensures))
+pub special-returns-in_err-n-in-Operator : goal.special-returns-in_err-n-in-Operator
+special-returns-in_err-n-in-Operator t c = does-leads c.special_shape.ensures (c.in_ok-shape.was ∙ ap Ok c.in-Operator.is) (sub-refused (closes c.shut_leaf.ensures refl refl) c.in_err-n-in-Operator.was (handed c.from_residual-in_err-n-in-Operator.ensures))
 
-pub special-returns-in-Operator : goal.special-returns-in-Operator
-special-returns-in-Operator t c = does-leads c.special_shape.ensures (c.in_ok-special_shape.was ∙ ap Ok c.in-Operator.is) (does-sub (closes c.shut_leaf.ensures refl refl) c.in_ok-n.was (rw c.is_guard.ensures does-ret))
+pub special-returns-in_ok-n-in-Operator : goal.special-returns-in_ok-n-in-Operator
+special-returns-in_ok-n-in-Operator t c = does-leads c.special_shape.ensures (c.in_ok-shape.was ∙ ap Ok c.in-Operator.is) (does-sub (closes c.shut_leaf.ensures refl refl) c.in_ok-n-in-Operator.was (rw c.is_guard.ensures does-ret))
 
-pub special-returns-in_err-n-2 : goal.special-returns-in_err-n-2
-special-returns-in_err-n-2 t c = does-leads c.special_shape.ensures (c.in_ok-special_shape.was ∙ ap Ok c.in-Type.is) (does-inner (sub-refused c.vtype.ensures c.in_err-n-2.was (handed c.from_residual-in_err-n-2.ensures)))
+pub special-returns-in_err-n-in-Type : goal.special-returns-in_err-n-in-Type
+special-returns-in_err-n-in-Type t c = does-leads c.special_shape.ensures (c.in_ok-shape.was ∙ ap Ok c.in-Type.is) (does-inner (sub-refused c.vtype.ensures c.in_err-n-in-Type.was (handed c.from_residual-in_err-n-in-Type.ensures)))
 
-pub special-returns-in_err-d : goal.special-returns-in_err-d
-special-returns-in_err-d t c = does-leads c.special_shape.ensures (c.in_ok-special_shape.was ∙ ap Ok c.in-Type.is) (does-inner (does-sub c.vtype.ensures c.in_ok-n-2.was (sub-refused (closes c.above.ensures refl refl) c.in_err-d.was (handed c.from_residual-in_err-d.ensures))))
+pub special-returns-in_err-d-in-Type : goal.special-returns-in_err-d-in-Type
+special-returns-in_err-d-in-Type t c = does-leads c.special_shape.ensures (c.in_ok-shape.was ∙ ap Ok c.in-Type.is) (does-inner (does-sub c.vtype.ensures c.in_ok-n-in-Type.was (sub-refused (closes c.above.ensures refl refl) c.in_err-d-in-Type.was (handed c.from_residual-in_err-d-in-Type.ensures))))
 
-pub special-returns-in-Type : goal.special-returns-in-Type
-special-returns-in-Type t c = does-leads c.special_shape.ensures (c.in_ok-special_shape.was ∙ ap Ok c.in-Type.is) (does-inner (does-sub c.vtype.ensures c.in_ok-n-2.was (does-sub (closes c.above.ensures refl refl) c.in_ok-d.was does-ret)))
+pub special-returns-in_ok-d-in-Type : goal.special-returns-in_ok-d-in-Type
+special-returns-in_ok-d-in-Type t c = does-leads c.special_shape.ensures (c.in_ok-shape.was ∙ ap Ok c.in-Type.is) (does-inner (does-sub c.vtype.ensures c.in_ok-n-in-Type.was (does-sub (closes c.above.ensures refl refl) c.in_ok-d-in-Type.was does-ret)))
 
-pub special-returns-in_err-n-3 : goal.special-returns-in_err-n-3
-special-returns-in_err-n-3 t c = does-leads c.special_shape.ensures (c.in_ok-special_shape.was ∙ ap Ok c.in-Base.is) (sub-refused (closes c.shut.ensures.shuts refl refl) c.in_err-n-3.was (handed c.from_residual-in_err-n-3.ensures))
+pub special-returns-in_err-n-in-Base : goal.special-returns-in_err-n-in-Base
+special-returns-in_err-n-in-Base t c = does-leads c.special_shape.ensures (c.in_ok-shape.was ∙ ap Ok c.in-Base.is) (sub-refused (closes c.shut.ensures.shuts refl refl) c.in_err-n-in-Base.was (handed c.from_residual-in_err-n-in-Base.ensures))
 
-pub special-returns-in-Base : goal.special-returns-in-Base
-special-returns-in-Base t c = does-leads c.special_shape.ensures (c.in_ok-special_shape.was ∙ ap Ok c.in-Base.is) (does-sub (closes c.shut.ensures.shuts refl refl) c.in_ok-n-3.was does-ret)
+pub special-returns-in_ok-n-in-Base : goal.special-returns-in_ok-n-in-Base
+special-returns-in_ok-n-in-Base t c = does-leads c.special_shape.ensures (c.in_ok-shape.was ∙ ap Ok c.in-Base.is) (does-sub (closes c.shut.ensures.shuts refl refl) c.in_ok-n-in-Base.was does-ret)
 
 pub nname-returns-in-Some : goal.nname-returns-in-Some
 nname-returns-in-Some t c = on-digit name_of c.digit.ensures c.in-Some.is (does-finds c.name_of.ensures)
@@ -328,33 +323,33 @@ nname-returns-in-None t c = no_digit name_of c.digit.ensures c.in-None.is (does-
 pub nested-returns-in_err-left : goal.nested-returns-in_err-left
 nested-returns-in_err-left t c = reads-deep c.open.ensures c.in_err-left.was (handed c.from_residual.ensures)
 
-pub nested-returns-in_err-name_shape : goal.nested-returns-in_err-name_shape
+pub nested-returns-in_err-shape : goal.nested-returns-in_err-shape
 unfolding body
-nested-returns-in_err-name_shape t c = reads-body c.open.ensures c.in_ok-left.was (leads-refused c.name_shape.ensures c.in_err-name_shape.was (handed c.from_residual-in_err-name_shape.ensures))
+nested-returns-in_err-shape t c = reads-body c.open.ensures c.in_ok-left.was (leads-refused c.name_shape.ensures c.in_err-shape.was (handed c.from_residual-in_err-shape.ensures))
 
 pub nested-returns-in-Stored : goal.nested-returns-in-Stored
 unfolding body
-nested-returns-in-Stored t c = reads-body c.open.ensures c.in_ok-left.was (does-leads c.name_shape.ensures (c.in_ok-name_shape.was ∙ ap Ok c.in-Stored.is) (does-finds c.name_of.ensures))
+nested-returns-in-Stored t c = reads-body c.open.ensures c.in_ok-left.was (does-leads c.name_shape.ensures (c.in_ok-shape.was ∙ ap Ok c.in-Stored.is) (does-finds c.name_of.ensures))
 
-pub nested-returns-in_err-n : goal.nested-returns-in_err-n
+pub nested-returns-in_err-n-in-Parsed : goal.nested-returns-in_err-n-in-Parsed
 unfolding body
-nested-returns-in_err-n t c = reads-body c.open.ensures c.in_ok-left.was (does-leads c.name_shape.ensures (c.in_ok-name_shape.was ∙ ap Ok c.in-Parsed.is) (sub-refused (does-part c.parse.ensures) c.in_err-n.was (handed c.from_residual-in_err-n.ensures)))
+nested-returns-in_err-n-in-Parsed t c = reads-body c.open.ensures c.in_ok-left.was (does-leads c.name_shape.ensures (c.in_ok-shape.was ∙ ap Ok c.in-Parsed.is) (sub-refused (does-part c.parse.ensures) c.in_err-n-in-Parsed.was (handed c.from_residual-in_err-n-in-Parsed.ensures)))
 
-pub nested-returns-in-Parsed : goal.nested-returns-in-Parsed
+pub nested-returns-in_ok-n-in-Parsed : goal.nested-returns-in_ok-n-in-Parsed
 unfolding body
-nested-returns-in-Parsed t c = reads-body c.open.ensures c.in_ok-left.was (does-leads c.name_shape.ensures (c.in_ok-name_shape.was ∙ ap Ok c.in-Parsed.is) (does-sub (does-part c.parse.ensures) c.in_ok-n.was (closes c.above.ensures refl refl)))
+nested-returns-in_ok-n-in-Parsed t c = reads-body c.open.ensures c.in_ok-left.was (does-leads c.name_shape.ensures (c.in_ok-shape.was ∙ ap Ok c.in-Parsed.is) (does-sub (does-part c.parse.ensures) c.in_ok-n-in-Parsed.was (closes c.above.ensures refl refl)))
 
-pub nested-returns-in_err-n-2 : goal.nested-returns-in_err-n-2
+pub nested-returns-in_err-n-in-Template : goal.nested-returns-in_err-n-in-Template
 unfolding body
-nested-returns-in_err-n-2 t c = reads-body c.open.ensures c.in_ok-left.was (does-leads c.name_shape.ensures (c.in_ok-name_shape.was ∙ ap Ok c.in-Template.is) (sub-refused c.tmpl.ensures c.in_err-n-2.was (handed c.from_residual-in_err-n-2.ensures)))
+nested-returns-in_err-n-in-Template t c = reads-body c.open.ensures c.in_ok-left.was (does-leads c.name_shape.ensures (c.in_ok-shape.was ∙ ap Ok c.in-Template.is) (sub-refused c.tmpl.ensures c.in_err-n-in-Template.was (handed c.from_residual-in_err-n-in-Template.ensures)))
 
-pub nested-returns-in-Template : goal.nested-returns-in-Template
+pub nested-returns-in_ok-n-in-Template : goal.nested-returns-in_ok-n-in-Template
 unfolding body
-nested-returns-in-Template t c = reads-body c.open.ensures c.in_ok-left.was (does-leads c.name_shape.ensures (c.in_ok-name_shape.was ∙ ap Ok c.in-Template.is) (does-sub c.tmpl.ensures c.in_ok-n-2.was (does-keeps c.memorize_name.ensures does-ret)))
+nested-returns-in_ok-n-in-Template t c = reads-body c.open.ensures c.in_ok-left.was (does-leads c.name_shape.ensures (c.in_ok-shape.was ∙ ap Ok c.in-Template.is) (does-sub c.tmpl.ensures c.in_ok-n-in-Template.was (does-keeps c.memorize_name.ensures does-ret)))
 
 pub nested-returns-in-Leaf : goal.nested-returns-in-Leaf
 unfolding body
-nested-returns-in-Leaf t c = reads-body c.open.ensures c.in_ok-left.was (does-leads c.name_shape.ensures (c.in_ok-name_shape.was ∙ ap Ok c.in-Leaf.is) (c.leaf_name.ensures _))
+nested-returns-in-Leaf t c = reads-body c.open.ensures c.in_ok-left.was (does-leads c.name_shape.ensures (c.in_ok-shape.was ∙ ap Ok c.in-Leaf.is) (c.leaf_name.ensures _))
 
 pub parse-returns-in_err-left : goal.parse-returns-in_err-left
 parse-returns-in_err-left t c = reads-deep c.open.ensures c.in_err-left.was (handed c.from_residual.ensures)
@@ -459,36 +454,84 @@ pub oguard-returns : goal.oguard-returns
 unfolding body
 oguard-returns t c = reads-body c.open.ensures c.in_ok-left.was (does-sub c.nname.ensures c.in_ok-n.was (does-sub c.scope.ensures c.in_ok-l.was (closes c.shut.ensures.shuts (rw (c.to-a.ensures, c.from-b.ensures)) refl)))
 
-pub sym-returns-in_err-symbol_shape : goal.sym-returns-in_err-symbol_shape
+pub sym-returns-in_err-shape : goal.sym-returns-in_err-shape
 unfolding body
-sym-returns-in_err-symbol_shape t c = reads-body c.open.ensures c.in_ok-left.was (leads-refused c.symbol_shape.ensures c.in_err-symbol_shape.was (handed c.from_residual-in_err-symbol_shape.ensures))
+sym-returns-in_err-shape t c = reads-body c.open.ensures c.in_ok-left.was (leads-refused c.symbol_shape.ensures c.in_err-shape.was (handed c.from_residual-in_err-shape.ensures))
 
 pub sym-returns-in-Variable : goal.sym-returns-in-Variable
 unfolding body
-sym-returns-in-Variable t c = reads-body c.open.ensures c.in_ok-left.was (does-leads c.symbol_shape.ensures (c.in_ok-symbol_shape.was ∙ ap Ok c.in-Variable.is) (c.var.ensures))
+sym-returns-in-Variable t c = reads-body c.open.ensures c.in_ok-left.was (does-leads c.symbol_shape.ensures (c.in_ok-shape.was ∙ ap Ok c.in-Variable.is) (c.var.ensures))
 
-pub sym-returns-in_err-l : goal.sym-returns-in_err-l
+pub sym-returns-in_err-l-in-Table : goal.sym-returns-in_err-l-in-Table
 unfolding body
-sym-returns-in_err-l t c = reads-body c.open.ensures c.in_ok-left.was (does-leads c.symbol_shape.ensures (c.in_ok-symbol_shape.was ∙ ap Ok c.in-Table.is) (sub-refused c.scope.ensures c.in_err-l.was (handed c.from_residual-in_err-l.ensures)))
+sym-returns-in_err-l-in-Table t c = reads-body c.open.ensures c.in_ok-left.was (does-leads c.symbol_shape.ensures (c.in_ok-shape.was ∙ ap Ok c.in-Table.is) (sub-refused c.scope.ensures c.in_err-l-in-Table.was (handed c.from_residual-in_err-l-in-Table.ensures)))
 
-pub sym-returns-in-Table : goal.sym-returns-in-Table
+pub sym-returns-in_ok-l-in-Table : goal.sym-returns-in_ok-l-in-Table
 unfolding body
-sym-returns-in-Table t c = reads-body c.open.ensures c.in_ok-left.was (does-leads c.symbol_shape.ensures (c.in_ok-symbol_shape.was ∙ ap Ok c.in-Table.is) (does-sub c.scope.ensures c.in_ok-l.was (closes c.shut.ensures.shuts (rw c.from-a.ensures) refl)))
+sym-returns-in_ok-l-in-Table t c = reads-body c.open.ensures c.in_ok-left.was (does-leads c.symbol_shape.ensures (c.in_ok-shape.was ∙ ap Ok c.in-Table.is) (does-sub c.scope.ensures c.in_ok-l-in-Table.was (closes c.shut.ensures.shuts (rw c.from-a.ensures) refl)))
 
-pub sym-returns-in_err-x : goal.sym-returns-in_err-x
+pub sym-returns-in_err-x-in-Function : goal.sym-returns-in_err-x-in-Function
 unfolding body
-sym-returns-in_err-x t c = reads-body c.open.ensures c.in_ok-left.was (does-leads c.symbol_shape.ensures (c.in_ok-symbol_shape.was ∙ ap Ok c.in-Function.is) (leads-refused c.symbol_head.ensures c.in_err-x.was (handed c.from_residual-in_err-x.ensures)))
+sym-returns-in_err-x-in-Function t c = reads-body c.open.ensures c.in_ok-left.was (does-leads c.symbol_shape.ensures (c.in_ok-shape.was ∙ ap Ok c.in-Function.is) (leads-refused c.symbol_head.ensures c.in_err-x-in-Function.was (handed c.from_residual-in_err-x-in-Function.ensures)))
 
-pub sym-returns-in-Function : goal.sym-returns-in-Function
+pub sym-returns-in_ok-x-in-Function : goal.sym-returns-in_ok-x-in-Function
 unfolding body
-sym-returns-in-Function t c = reads-body c.open.ensures c.in_ok-left.was (does-leads c.symbol_shape.ensures (c.in_ok-symbol_shape.was ∙ ap Ok c.in-Function.is) (does-leads c.symbol_head.ensures c.in_ok-x.was c.tail.ensures))
+sym-returns-in_ok-x-in-Function t c = reads-body c.open.ensures c.in_ok-left.was (does-leads c.symbol_shape.ensures (c.in_ok-shape.was ∙ ap Ok c.in-Function.is) (does-leads c.symbol_head.ensures c.in_ok-x-in-Function.was c.tail.ensures))
 
 pub sym-returns-in-Leaf : goal.sym-returns-in-Leaf
 unfolding body
-sym-returns-in-Leaf t c = reads-body c.open.ensures c.in_ok-left.was (does-leads c.symbol_shape.ensures (c.in_ok-symbol_shape.was ∙ ap Ok c.in-Leaf.is) (closes c.shut_leaf.ensures refl refl))
+sym-returns-in-Leaf t c = reads-body c.open.ensures c.in_ok-left.was (does-leads c.symbol_shape.ensures (c.in_ok-shape.was ∙ ap Ok c.in-Leaf.is) (closes c.shut_leaf.ensures refl refl))
 
 pub var-returns-in_err-n : goal.var-returns-in_err-n
 var-returns-in_err-n t c = sub-refused c.vtype.ensures c.in_err-n.was (handed c.from_residual.ensures)
 
 pub var-returns : goal.var-returns
 var-returns t c = does-sub c.vtype.ensures c.in_ok-n.was (does-value c.storage_class-class.ensures refl (closes c.above.ensures refl refl))
+
+pub params-loop-init : goal.params-loop-init
+params-loop-init t c = let all : c.turns-most.result - 0 ≡ c.turns-most.result = omega arith in λ g st' t' q. params-starts (all ∙ c.turns-most.ensures) q
+
+pub params-returns-then-list_stops : goal.params-returns-then-list_stops
+params-returns-then-list_stops t c =
+    let some : 0 < c.turns-most.result - c.loop.counter = omega arith in
+    c.loop.invariant _ _ _ (params-ends (c.turns-most.result - c.loop.counter) c.loop.last some c.list_stops.ensures c.if-list_stops.true c.list_end.ensures)
+
+pub params-returns-in_err-last : goal.params-returns-in_err-last
+params-returns-in_err-last t c =
+    let some : 0 < c.turns-most.result - c.loop.counter = omega arith in
+    c.loop.invariant _ _ _ (params-goes (c.turns-most.result - c.loop.counter) c.loop.last some c.list_stops.ensures c.if-list_stops.false (sub-refused c.param.ensures c.in_err-last.was (handed c.from_residual.ensures)))
+
+pub params-loop-preserved : goal.params-loop-preserved
+params-loop-preserved t c =
+    let some : 0 < c.turns-most.result - c.loop.counter = omega arith in
+    let less : c.turns-most.result - (c.loop.counter + 1) ≡ c.turns-most.result - c.loop.counter - 1 = omega arith in
+    λ g st' t' q. c.loop.invariant g st' t' (params-goes (c.turns-most.result - c.loop.counter) c.loop.last some c.list_stops.ensures c.if-list_stops.false (does-sub c.param.ensures c.in_ok-last.was (rw less at q)))
+
+pub params-returns : goal.params-returns
+params-returns t c =
+    let none : c.turns-most.result - c.loop.counter ≤ 0 = omega arith in
+    c.loop.invariant _ _ _ (params-out (c.turns-most.result - c.loop.counter) c.loop.last none)
+
+pub scope-loop-init : goal.scope-loop-init
+scope-loop-init t c = let all : c.turns-most.result - 0 ≡ c.turns-most.result = omega arith in λ g st' t' q. scope-starts (all ∙ c.turns-most.ensures) q
+
+pub scope-returns-then-consume : goal.scope-returns-then-consume
+scope-returns-then-consume t c =
+    let some : 0 < c.turns-most.result - c.loop.counter = omega arith in
+    c.loop.invariant _ _ _ (scope_ends (c.turns-most.result - c.loop.counter) c.loop.last some c.consume.ensures c.if-consume.true)
+
+pub scope-returns-in_err-last : goal.scope-returns-in_err-last
+scope-returns-in_err-last t c =
+    let some : 0 < c.turns-most.result - c.loop.counter = omega arith in
+    c.loop.invariant _ _ _ (scope-goes (c.turns-most.result - c.loop.counter) c.loop.last some c.consume.ensures c.if-consume.false (sub-refused c.sname.ensures c.in_err-last.was (handed c.from_residual.ensures)))
+
+pub scope-loop-preserved : goal.scope-loop-preserved
+scope-loop-preserved t c =
+    let some : 0 < c.turns-most.result - c.loop.counter = omega arith in
+    let less : c.turns-most.result - (c.loop.counter + 1) ≡ c.turns-most.result - c.loop.counter - 1 = omega arith in
+    λ g st' t' q. c.loop.invariant g st' t' (scope-goes (c.turns-most.result - c.loop.counter) c.loop.last some c.consume.ensures c.if-consume.false (does-sub c.sname.ensures c.in_ok-last.was (rw less at q)))
+
+pub scope-returns : goal.scope-returns
+scope-returns t c =
+    let none : c.turns-most.result - c.loop.counter ≤ 0 = omega arith in
+    c.loop.invariant _ _ _ (scope-out (c.turns-most.result - c.loop.counter) c.loop.last none)

@@ -1,4 +1,10 @@
-use Prim.Native.Nat.{◌+◌, ◌*◌}
+use Prim.Native.Nat.{ℕ, ◌+◌, ◌*◌, ◌-◌}
+use mathlib.Core.List.{List}
+use Rattle.std.specs.Prelude.{Result}
+use Rattle.grammar.specs.Grammar.{params, scope, params_from, scope_from}
+use Rattle.grammar.specs.declared.State.{State}
+use Rattle.grammar.specs.declared.Refusal.{Refusal}
+use Rattle.steps.specs.Does.{Does}
 use Rattle.cycle.proofs.+readers.Given as goal
 
 abbrev pub decreases-array : goal.decreases-array
@@ -108,3 +114,9 @@ decreases-var l = 8 * l.depth + 2
 
 abbrev pub decreases-vtype : goal.decreases-vtype
 decreases-vtype l = 8 * l.depth + 1
+
+abbrev pub invariant-params-loop : goal.invariant-params-loop
+invariant-params-loop l = (g : Result ℕ Refusal) (st' : State) (t' : List ℕ) → Does l.r l.depth (params_from (l.most - l.counter) l.last) l.st l.t g st' t' → Does l.r l.depth params l.initial.st l.initial.t g st' t'
+
+abbrev pub invariant-scope-loop : goal.invariant-scope-loop
+invariant-scope-loop l = (g : Result ℕ Refusal) (st' : State) (t' : List ℕ) → Does l.r l.depth (scope_from (l.most - l.counter) l.last) l.st l.t g st' t' → Does l.r l.depth scope l.initial.st l.initial.t g st' t'
