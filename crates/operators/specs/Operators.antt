@@ -1,7 +1,7 @@
 -- The letters of read_special_name, behind `?`. Operators are numbered in the order of the crate's enum, but for the two RTTI descriptors
 -- with operands, which come last.
 -- Assumes nothing: these are definitions.
-use Rattle.std.specs.Prelude.{ℕ, List, [], ◌∷◌, Ok, Err}
+use Rattle.std.specs.Prelude.{ℕ, List, [], ◌∷◌, Err}
 use Prim.Native.String.{String}
 use Rattle.scan.specs.Bytes.{pick, bytes, starts, spelled, up_to}
 use Rattle.scan.specs.Cursor.{Leaf, value}
