@@ -135,9 +135,6 @@ room_open {put = put} {m = m} g e f = g.ends (omega (arith, ltb-false (m - put) 
 pub room_waits : (m l used put : ℕ) → m ≡ l → used + longest_answer ≤ l → ltb (m - put) longest_answer ≡ true → 0 < put
 room_waits m l used put e h f = omega (arith, ltb-true (m - put) longest_answer f)
 
-pub never : {A : Type 0} → false ≡ true → A
-never e = let z : ◌≡◌ {A = ℕ} 0 1 = cc in absurd (omega arith)
-
 -- `position` finds the first newline, where there is one
 newline_place : (s : List ℕ) → newline_at s ≡ position_or_len (λ c. c == 10) s
 unfolding newline_at
