@@ -7,13 +7,12 @@ use native.Mathlib.Decide.{dec_le}
 use native.Mathlib.Omega.{arith}
 use borrow.Author.Tests.{ltb-true, ltb-false}
 use lib.Dec.{ltb, eqb}
-use lib.ListN.{length, take, drop, set, get_or, length-append, length-drop, length-take}
-use lib.Seq.{paste, length-take-le, drop-drop, get_or-append-add, get_or-drop, take_at, drop_at, take_all, take-take, take-add}
+use lib.ListN.{length, take, drop, length-append, length-drop, length-take}
+use lib.Seq.{paste, length-take-le, drop-drop, drop_at, take_all, take-take, take-add}
 use Rattle.scan.specs.Bytes.{pick}
 use Rattle.text.specs.Emit.{Wrote, lit}
 use Rattle.text.proofs.Cut.{length_cut, take-cut}
 use Rattle.text.proofs.Seq.{place-fits}
-use Rattle.text.proofs.Stores.{over, over-more}
 use Rattle.answer_line.specs.Line.{line_of}
 use Rattle.answer_line.proofs.Answers.{line-short}
 use Rattle.lines.specs.Output.{newline_at, Open, output}
