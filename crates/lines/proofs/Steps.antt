@@ -7,13 +7,12 @@ use native.Mathlib.Decide.{dec_le}
 use native.Mathlib.Omega.{arith}
 use borrow.Author.Tests.{ltb-true, ltb-false}
 use lib.Dec.{ltb, eqb}
-use lib.ListN.{length, take, drop, set, get_or, length-append, length-drop, length-take}
-use lib.Seq.{paste, length-take-le, drop-drop, get_or-append-add, get_or-drop, take_at, drop_at, take_all, take-take, take-add}
+use lib.ListN.{length, take, drop, length-append, length-drop, length-take}
+use lib.Seq.{paste, length-take-le, drop-drop, drop_at, take_all, take-take, take-add}
 use Rattle.scan.specs.Bytes.{pick}
 use Rattle.text.specs.Emit.{Wrote, lit}
 use Rattle.text.proofs.Cut.{length_cut, take-cut}
 use Rattle.text.proofs.Seq.{place-fits}
-use Rattle.text.proofs.Stores.{over, over-more}
 use Rattle.answer_line.specs.Line.{line_of}
 use Rattle.answer_line.proofs.Answers.{line-short}
 use Rattle.lines.specs.Output.{newline_at, Open, output}
@@ -134,9 +133,6 @@ room_open {put = put} {m = m} g e f = g.ends (omega (arith, ltb-false (m - put) 
 
 pub room_waits : (m l used put : ℕ) → m ≡ l → used + longest_answer ≤ l → ltb (m - put) longest_answer ≡ true → 0 < put
 room_waits m l used put e h f = omega (arith, ltb-true (m - put) longest_answer f)
-
-pub never : {A : Type 0} → false ≡ true → A
-never e = let z : ◌≡◌ {A = ℕ} 0 1 = cc in absurd (omega arith)
 
 -- `position` finds the first newline, where there is one
 newline_place : (s : List ℕ) → newline_at s ≡ position_or_len (λ c. c == 10) s

@@ -23,6 +23,7 @@ pub struct Scratch {
 }
 
 // How many bytes of the input's beginning are kept, how many of the output wait, and whether a step stopped for want of room.
+// Beside the buffers, which are the caller's fixed memory; `full` beside `kept`, which all but the next read take alike.
 #[derive(Clone, Copy)]
 pub struct Work {
     pub kept: usize,

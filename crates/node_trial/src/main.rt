@@ -124,7 +124,7 @@ fn try_cell(out: &mut Stdout, table: &mut [u32], i: usize) -> io::Result<()> {
 }
 
 fn try_node(out: &mut Stdout, table: &mut [u32], n: usize) -> io::Result<()>
-    requires { n < 69 }
+    requires { n < COUNT }
 {
     let kind = node::kind(table, n);
     write!(out, "{n} kind {kind}")?;

@@ -1,7 +1,7 @@
 -- Assumes nothing.
-use mathlib.Core.Path.{refl, ap, sym, ◌∙◌}
+use mathlib.Core.Path.{ap, sym, ◌∙◌}
 use native.Mathlib.Omega.{arith}
-use Prim.Native.Nat.{◌+◌, ◌≤◌, ◌<◌}
+use Prim.Native.Nat.{◌+◌, ◌<◌}
 use mathlib.Core.Path.{◌≡◌}
 use lib.ListN.{length, length-drop, drop}
 use Rattle.lines.specs.Output.{newline_at}
@@ -18,9 +18,6 @@ loop-out-preserved c =
     let e : end ≡ at + newline_at (drop at i) = ap (λ n. at + n) (sym f.0) in
     let within : end < length i = omega (arith, f.1, length-drop at i) in
     (omega (arith, within), omega (arith, line-put i at end c.answer_line-put.ensures (omega arith) e within), search rules, λ more. line-owes i at end c.answer_line-put.ensures (omega arith) e within more ∙ c.loop-out.invariant.3 more)
-
-pub returns-after-loop-out : goal.returns-after-loop-out
-returns-after-loop-out c = record { within = omega arith; fits = omega arith; owes = c.loop-out.invariant.3; ends = λ h. absurd (omega arith) }
 
 pub returns-in_default : goal.returns-in_default
 returns-in_default c = record { within = omega arith; fits = omega arith; owes = c.loop-out.invariant.3; ends = λ _. newline_missed c.args.input.now c.loop-out.at (sym c.in_default.is ∙ c.line_end.ensures) }
