@@ -22,6 +22,8 @@ pub const TEXT: usize = 4_096;
 
 pub const LONGEST_ANSWER: usize = TEXT + 4;
 
+// A place `o` in the lent buffer goes in, and the place behind what was written comes out, as with every writer here:
+// no heap, and the scope asks for a place in the text buffer.
 fn put_number(out: &mut [u8], o: usize, n: usize) -> usize
     ensures { Wrote (lit (decimal n)) out.old o out.new result }
 {
