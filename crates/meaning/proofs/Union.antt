@@ -9,9 +9,10 @@ use native.Mathlib.Omega.{arith}
 use lib.Dec.{eqb}
 use lib.ListN.{length, get_or, set, replicate, length-replicate, get_or-replicate, get_or-eq_default}
 use lib.Seq.{get_or-set_same, get_or-set_other, set_out}
-use borrow.Author.Tests.{eqb-true, ne_eqb, lt-ltb, le-ltb}
+use borrow.Author.Tests.{eqb-true, eq-eqb, ne_eqb, lt-ltb, le-ltb}
+use Rattle.std.specs.Prelude.{Option, Some, None}
 use Rattle.meaning.specs.Tree.{Tree}
-use Rattle.meaning.specs.Links.{held_of, link, link_of, note_of, Held, Links, Falls, Way, Joins, Parts}
+use Rattle.meaning.specs.Links.{held_of, link, link_of, some_link, note_of, Held, Links, Falls, Way, Joins, Parts}
 
 -- what a number says
 link-low : {v : ℕ} → v < 32768 → link v ≡ v
@@ -57,6 +58,28 @@ module _ (l : List ℕ) (x : ℕ) (h : 1 ≤ x) where
   pub link-not : 32768 ≤ get_or l (x - 1) 0 → 0 ≡ link_of l x
   unfolding link_of
   link-not g = sym (ap link (held_at l x h) ∙ link-high g)
+
+pub some-is : {v w : ℕ} → v ≡ w → 1 ≤ v → Some v ≡ some_link w
+some-is {v} {w} e h = rw (ne_eqb w 0 (λ z. omega (arith, e, z))) (ap (λ x. Some x) e)
+
+pub none-is : {w : ℕ} → 0 ≡ w → None ≡ some_link w
+none-is {w} e = rw (eq-eqb w 0 (sym e))
+
+pub is-some : {w y : ℕ} → Some y ≡ some_link w → (y ≡ w) × (1 ≤ y)
+is-some {w} {y} e = pick (ℕ_discrete w 0)
+  where
+    pick : Dec (w ≡ 0) → (y ≡ w) × (1 ≤ y)
+    pick (yes z) = let f : Some y ≡ None = rw (eq-eqb w 0 z) at e in absurd (cc)
+    pick (no z) = let f : Some y ≡ Some w = rw (ne_eqb w 0 z) at e in
+        let g : y ≡ w = cc in
+        (g, omega (arith, g, z))
+
+pub is-none : {w : ℕ} → None ≡ some_link w → w ≡ 0
+is-none {w} e = pick (ℕ_discrete w 0)
+  where
+    pick : Dec (w ≡ 0) → w ≡ 0
+    pick (yes z) = z
+    pick (no z) = let f : None ≡ Some w = rw (ne_eqb w 0 z) at e in absurd (cc)
 
 -- a note, as the code reads it
 module _ (l : List ℕ) (x y : ℕ) (hx : 1 ≤ x) where
