@@ -1,6 +1,6 @@
 -- Two references compared, by their nodes. Assumes nothing.
-use Prim.Native.Nat.{ℕ, ◌-◌, ◌≤◌, ◌<◌}
-use mathlib.Core.Bool.{Bool, true, false, not, ◌&&◌}
+use Prim.Native.Nat.{ℕ, ◌-◌, ◌≤◌}
+use mathlib.Core.Bool.{Bool, true, false, ◌&&◌}
 use mathlib.Core.Path.{◌≡◌, refl, sym, ap, ap₂, ◌∙◌}
 use mathlib.Core.List.{List}
 use native.Mathlib.Decide.{ℕ_discrete}
@@ -10,7 +10,7 @@ use borrow.Author.Tests.{eq-eqb, ne_eqb, eqb-true}
 use Rattle.meaning.specs.Tree.{tree_of, kid_of, eq_tree, eq_own, eq_kids, eq_numbers, eq_but_first}
 use Rattle.std.specs.Prelude.{Result, Ok, Err}
 use Rattle.meaning.specs.declared.Unequal.{Unequal}
-use Rattle.meaning.specs.declared.Unequal.TheVariants.{Differ, Spent}
+use Rattle.meaning.specs.declared.Unequal.TheVariants.{Differ}
 use Rattle.meaning.specs.Links.{Judged}
 use Rattle.meaning.proofs.Trees.{and_both, eq_tree-refl, eq_tree-sound, tree-none, tree_is}
 use Rattle.meaning.proofs.Own.{own_equal}
@@ -43,9 +43,6 @@ judged-no p = record { no = λ z. p; yes = λ x z. absurd (cc) }
 
 pub judged-yes : {A : Type 0} {e : Bool} {x : A} → e ≡ true → Judged e (Ok x)
 judged-yes p = record { no = λ z. absurd (cc); yes = λ x z. p }
-
-pub judged-spent : {A : Type 0} {e : Bool} → Judged {A = A} e (Err Spent)
-judged-spent = record { no = λ z. absurd (cc); yes = λ x z. absurd (cc) }
 
 pub at_same : (t y : List ℕ) {r q s p : ℕ} → r ≡ s → q ≡ p → eq_tree (tree_of t y r) (tree_of t y q) ≡ eq_tree (tree_of t y s) (tree_of t y p)
 at_same t y = ap₂ (λ r q. eq_tree (tree_of t y r) (tree_of t y q))

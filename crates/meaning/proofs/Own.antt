@@ -1,15 +1,13 @@
 -- What nodes hold themselves. Assumes nothing.
-use Prim.Native.Nat.{ℕ, suc, ◌+◌, ◌-◌, ◌≤◌, ◌<◌}
+use Prim.Native.Nat.{ℕ, suc}
 use mathlib.Core.Bool.{Bool, true, false, ◌&&◌, and-true, and_comm, and_assoc}
 use mathlib.Core.Path.{◌≡◌, refl, sym, ap, ◌∙◌}
 use mathlib.Core.List.{List, [], ◌∷◌}
-use native.Mathlib.Omega.{arith}
 use lib.Dec.{eqb}
-use lib.ListN.{length, get_or, take, drop}
-use borrow.Author.Tests.{eq-eqb, ne_eqb, le-leb, lt-leb, eqb-true}
+use lib.ListN.{length}
+use borrow.Author.Tests.{eq-eqb, ne_eqb, eqb-true}
 use Rattle.node.specs.Cells.{cell_of}
-use Rattle.scan.proofs.Laws.{split, past}
-use Rattle.meaning.specs.Tree.{part, decoded, content_of, shown, numbers_of, bytes_of, eq_list, eq_own, eq_content, eq_numbers}
+use Rattle.meaning.specs.Tree.{part, content_of, shown, numbers_of, bytes_of, eq_list, eq_own, eq_content, eq_numbers}
 use Rattle.meaning.proofs.Trees.{and_both, eq_list-refl}
 
 pub length-other : (x y : List ℕ) → (length x ≡ length y → ⊥) → eq_list x y ≡ false
@@ -34,12 +32,6 @@ module _ (t s : List ℕ) (i j : ℕ) where
         content_of (cell_of t i 0) ≡ 1 → eq_content t s i j ≡ eq_list (part s (cell_of t i 7) (cell_of t i 8)) (part s (cell_of t j 7) (cell_of t j 8))
     unfolding eq_content bytes_of
     content-bytes e = rw (← k, ne_eqb (content_of (cell_of t i 0)) 0 z, eq-eqb (content_of (cell_of t i 0)) 1 e)
-
-    pub content-string :
-        (content_of (cell_of t i 0) ≡ 1 → ⊥)
-        → eq_content t s i j ≡ eq_list (decoded (part s (cell_of t i 7) (cell_of t i 8))) (decoded (part s (cell_of t j 7) (cell_of t j 8)))
-    unfolding eq_content bytes_of
-    content-string e = rw (← k, ne_eqb (content_of (cell_of t i 0)) 0 z, ne_eqb (content_of (cell_of t i 0)) 1 e)
 
 last-first : (p q r s : Bool) → p && (q && (r && (s && true))) ≡ r && (s && (p && q))
 last-first p q r s = rw (and-true s) (sym (and_assoc p q (r && s)) ∙ and_comm (p && q) (r && s) ∙ and_assoc r s (p && q))

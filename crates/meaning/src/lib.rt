@@ -15,6 +15,7 @@ use scan::cursor::Leaf;
 use strings::encoded::read_character;
 
 // The reference in cell j of node n, 0 where it names no earlier node.
+#[tactic(auto, unfolding(crate::specs::Tree::kid_of))]
 pub fn kid(table: &[u32], n: usize, j: usize) -> usize
     ensures { (result ≡ kid_of table.now n j) × (result ≤ n) }
 {

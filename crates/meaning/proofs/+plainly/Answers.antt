@@ -1,6 +1,6 @@
 -- The functions of this cycle of calls meet their contracts.
 -- Assumes nothing.
-use mathlib.Core.Path.{◌≡◌, refl, ◌∙◌}
+use mathlib.Core.Path.{◌≡◌, refl}
 use borrow.Author.Rules.{rules}
 use Rattle.std.specs.Prelude.{Err}
 use native.Mathlib.Omega.{arith}

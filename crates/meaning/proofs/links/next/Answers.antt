@@ -1,11 +1,9 @@
 -- Assumes nothing.
 use native.Mathlib.Omega.{arith}
-use mathlib.Core.Path.{◌≡◌, sym, ◌∙◌}
-use borrow.Author.Tests.{ltb-true}
+use mathlib.Core.Path.{◌≡◌, ◌∙◌}
 use Prim.Native.Nat.{◌-◌, ◌≤◌, ◌<◌}
 use lib.ListN.{length, get_or}
 use Rattle.std.proofs.lemmas.Bool.Decides.{nat_tests}
-use Rattle.meaning.specs.Links.{some_link}
 use Rattle.meaning.proofs.Union.{some-is, none-is, link-past, link-is, link-not}
 use Rattle.meaning.proofs.links.next.Goals as goal
 use Rattle.meaning.proofs.links.next.Goals.{else-v-gt0-via-then-v-gt0+else-v-lt-NOTES, else-v-gt0-via-else-v-gt0}

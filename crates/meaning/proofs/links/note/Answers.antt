@@ -1,5 +1,5 @@
 -- Assumes nothing.
-use Rattle.meaning.proofs.Union.{parts_none, parts-set}
+use Rattle.meaning.proofs.Union.{parts-set}
 use Rattle.meaning.proofs.links.note.Goals as goal
 
 pub returns-then-x-lt-NOTES : goal.returns-then-x-lt-NOTES

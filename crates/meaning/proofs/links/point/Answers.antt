@@ -1,5 +1,5 @@
 -- Assumes nothing.
-use Rattle.meaning.proofs.Union.{joins-none, joins_set}
+use Rattle.meaning.proofs.Union.{joins_set}
 use Rattle.meaning.proofs.links.point.Goals as goal
 
 pub returns-then-y-lt-NOTES : goal.returns-then-y-lt-NOTES
