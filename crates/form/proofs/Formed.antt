@@ -1,16 +1,14 @@
 -- What a well-formed table is known for. Assumes nothing.
 use Prim.Native.Nat.{ℕ, zero, suc, ◌+◌, ◌≤◌, ◌<◌}
 use mathlib.Core.Bool.{Bool, true, false, cond}
-use mathlib.Core.Path.{◌≡◌, refl, sym, ap, ap₂, ◌∙◌}
+use mathlib.Core.Path.{◌≡◌, refl, sym, ap, ◌∙◌}
 use mathlib.Core.List.{List, []}
 use native.Mathlib.Numerals.{add-one}
 use native.Mathlib.Decide.{ℕ_discrete}
 use native.Mathlib.Omega.{arith}
-use lib.Dec.{leb}
 use lib.ListN.{get_or-eq_default}
-use Rattle.node.specs.Cells.{cell_of}
 use Rattle.form.specs.Kinds.{shapes, shape_of, whole_shape}
-use Rattle.form.specs.Form.{ref_ok, number_ok, node_ok, well_formed}
+use Rattle.form.specs.Form.{node_ok, well_formed}
 
 true-false : {A : Type 0} → true ≡ false → A
 true-false e = let z : ◌≡◌ {A = ℕ} 0 1 = cc in absurd (omega arith)
@@ -30,15 +28,6 @@ no-shape kind h = rw (get_or-eq_default shapes [] h)
 
 pub past : (k : ℕ) → 63 ≤ k → (k ≡ 63 → ⊥) → 64 ≤ k
 past k h off = omega (arith, off)
-
--- a reference's test, from what the code read for it
-pub ref-reads : (t : List ℕ) (n j i : ℕ) {mask r : ℕ} {x : Bool} → x ≡ ref_ok t n mask r → mask ≡ shape_of (cell_of t n 0) j → r ≡ cell_of t n i → x ≡ ref_ok t n (shape_of (cell_of t n 0) j) (cell_of t n i)
-ref-reads t n j i e em er = e ∙ ap₂ (ref_ok t n) em er
-
--- a number's test, from what the code read for it
-pub number-reads : (t : List ℕ) (n j : ℕ) {x most : ℕ} → x ≡ cell_of t n (7 + j) → most ≡ shape_of (cell_of t n 0) (4 + j) → leb x most ≡ number_ok t n j
-unfolding number_ok
-number-reads t n j e em = ap₂ leb e em
 
 pub formed-more : (t : List ℕ) (len k : ℕ) → well_formed t len k ≡ true → node_ok t len k ≡ true → well_formed t len (k + 1) ≡ true
 unfolding well_formed

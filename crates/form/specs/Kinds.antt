@@ -1,5 +1,5 @@
 -- The kinds of nodes. Assumes nothing: these are definitions.
-use Rattle.std.specs.Prelude.{ℕ, ◌+◌, List, [], ◌∷◌, get_or}
+use Rattle.std.specs.Prelude.{ℕ, ◌+◌, not, List, [], ◌∷◌, get_or, eqb}
 use Rattle.form.specs.declared.Shape.{Shape}
 
 -- The classes of kinds, one bit each: a reference fits where a reading can put a node of its class. `nothing` is no reference at all.
@@ -169,4 +169,9 @@ shape_of kind j = get_or (get_or shapes kind []) j 0
 -- a kind's shape, as the code hands it on
 unfoldable pub whole_shape : ℕ → Shape
 whole_shape kind =
-    record { class = shape_of kind 0; a = shape_of kind 1; b = shape_of kind 2; c = shape_of kind 3; p = shape_of kind 4; q = shape_of kind 5; r = shape_of kind 6; s = shape_of kind 7; ranged = shape_of kind 8 }
+    record {
+      class = shape_of kind 0;
+      refs = shape_of kind 1 ∷ shape_of kind 2 ∷ shape_of kind 3 ∷ [];
+      most = shape_of kind 4 ∷ shape_of kind 5 ∷ shape_of kind 6 ∷ shape_of kind 7 ∷ [];
+      ranged = not (eqb (shape_of kind 8) 0);
+    }

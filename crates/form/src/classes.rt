@@ -1,4 +1,5 @@
 // The classes of kinds, a bit each; specs/Kinds.antt says what stands in them.
+// Bits and no enum: a reference may name one of several classes, and `fits` asks by one number for all.
 pub const NONE: usize = 1;
 
 pub const PLAIN: usize = 2;
@@ -69,6 +70,3 @@ pub const CONV: usize = 4;
 pub const ACCESS: usize = 255;
 
 pub const STORAGE: usize = 4;
-
-// The first two numbers are a start and a length in the symbol.
-pub const RANGED: usize = 1;

@@ -1,10 +1,10 @@
 // Whether a node table is well formed: what a reading can leave.
 #![tactic(auto)]
 
-ghost use Rattle.std.specs.Prelude.{◌≡◌, ◌≤◌, ◌<◌, max};
+ghost use Rattle.std.specs.Prelude.{◌≡◌, ◌≤◌, ◌<◌, ◌^◌, [], ◌∷◌, true, false};
 ghost use Rattle.node.specs.Cells.{nodes, cell_of, KIND};
 ghost use Rattle.node.specs.Kind.{kind_number, MemberFunction};
-ghost use Rattle.form.specs.Kinds.{whole_shape};
+ghost use Rattle.form.specs.Kinds.{any, whole_shape};
 ghost use Rattle.form.specs.Form.{fits, ref_ok, height_ok, numbers_ok, range_ok, rest_ok, refs_ok, node_ok, well_formed};
 
 mod classes;
@@ -12,108 +12,101 @@ mod classes;
 use crate::classes::{
     ACCESS, ANY, CLASS, CONV, ENTRY, FUNCTION, GUARD, LAST_OPERATOR, LIST, MD5, NAMES, NESTED,
     NO_TYPE, NONE, OPERATOR, OUTER, OUTER_NAME, OUTER_TYPE, OWN_NAME, PARAMETER, PARSED, PLAIN,
-    RANGED, RETURN, ROOT_NAME, ROOT_TYPE, SCOPE, SCOPED, STORAGE, SYMBOL, TEMPLATED, TYPE, TYPES,
-    VAR_ARGS, VAR_TYPE,
+    RETURN, ROOT_NAME, ROOT_TYPE, SCOPE, SCOPED, STORAGE, SYMBOL, TEMPLATED, TYPE, TYPES, VAR_ARGS,
+    VAR_TYPE,
 };
 use node::{cell, cells, height, kind, kinds, room};
 
-// A kind's shape: its class; what its three references may be; the largest of its four numbers; 1 where the first two are a range.
+// A kind's shape: its class, what its three references may be, the largest of its four numbers,
+// and whether the first two numbers are a start and a length in the symbol.
 #[derive(Clone, Copy)]
 struct Shape {
     class: usize,
-    a: usize,
-    b: usize,
-    c: usize,
-    p: usize,
-    q: usize,
-    r: usize,
-    s: usize,
-    ranged: usize,
+    refs: [usize; 3],
+    most: [usize; 4],
+    ranged: bool,
 }
 
 const FIRST_TYPE: u32 = kinds::MEMBER_FUNCTION;
 
-fn row(
-    class: usize,
-    a: usize,
-    b: usize,
-    c: usize,
-    p: usize,
-    q: usize,
-    r: usize,
-    s: usize,
-    ranged: usize,
-) -> Shape
-    ensures { result ≡ record { class = class; a = a; b = b; c = c; p = p; q = q; r = r; s = s; ranged = ranged } }
+fn row(class: usize, refs: [usize; 3], most: [usize; 4]) -> Shape
+    ensures { result ≡ record { class = class; refs = refs; most = most; ranged = false } }
 {
     Shape {
         class,
-        a,
-        b,
-        c,
-        p,
-        q,
-        r,
-        s,
-        ranged,
+        refs,
+        most,
+        ranged: false,
+    }
+}
+
+// The shape of a node that names bytes of the symbol.
+fn bytes(class: usize) -> Shape
+    ensures { result ≡ record { class = class; refs = 1 ∷ 1 ∷ 1 ∷ []; most = any ∷ any ∷ 0 ∷ 0 ∷ []; ranged = true } }
+{
+    Shape {
+        ranged: true,
+        ..row(class, [NONE; 3], [ANY, ANY, 0, 0])
     }
 }
 
 // The shape of a kind before the types: places, symbols, names.
+#[tactic(auto, unfolding(crate::specs::Kinds::whole_shape, crate::specs::Kinds::shape_of))]
 fn name_shape(kind: u32) -> Shape
     requires { kind < kind_number MemberFunction }
     ensures { result ≡ whole_shape kind }
 {
     match kind {
-        kinds::NAME_PLACE => row(NAMES, SCOPE, ENTRY, NONE, 0, 0, 0, 0, 0),
-        kinds::TYPE_PLACE => row(TYPES, LIST, PARAMETER, NONE, 0, 0, 0, 0, 0),
-        kinds::PARSE_RESULT => row(PARSED, ROOT_NAME, ROOT_TYPE, NONE, GUARD, 0, 0, 0, 0),
-        kinds::SYMBOL => row(SYMBOL, OWN_NAME, SCOPE, NONE, 0, 0, 0, 0, 0),
-        kinds::OUTER_SYMBOL => row(OUTER, OUTER_NAME, SCOPE, NONE, 0, 0, 0, 0, 0),
-        kinds::MD5 => row(MD5, NONE, NONE, NONE, ANY, ANY, 0, 0, RANGED),
-        kinds::OPERATOR => row(OPERATOR, NONE, NONE, NONE, LAST_OPERATOR, 0, 0, 0, 0),
-        kinds::RTTI_TYPE_DESCRIPTOR => row(OPERATOR, TYPE, NONE, NONE, CLASS, 0, 0, 0, 0),
-        kinds::RTTI_BASE_CLASS_DESCRIPTOR => row(OPERATOR, NONE, NONE, NONE, ANY, ANY, ANY, ANY, 0),
-        kinds::NON_TEMPLATE => row(PLAIN, NONE, NONE, NONE, ANY, ANY, 0, 0, RANGED),
-        kinds::AS_INTERFACE => row(SCOPED, NONE, NONE, NONE, ANY, ANY, 0, 0, RANGED),
-        kinds::TEMPLATE => row(PLAIN, TEMPLATED, LIST, NONE, 0, 0, 0, 0, 0),
-        kinds::DISCRIMINATOR => row(NESTED, NONE, NONE, NONE, ANY, 0, 0, 0, 0),
-        kinds::PARSED_NAME => row(NESTED, PARSED, NONE, NONE, 0, 0, 0, 0, 0),
-        kinds::ANONYMOUS_ID => row(SCOPED, NONE, NONE, NONE, ANY, ANY, 0, 0, RANGED),
-        kinds::ANONYMOUS => row(NESTED, NONE, NONE, NONE, 0, 0, 0, 0, 0),
-        kinds::NONE => row(NO_TYPE, NONE, NONE, NONE, 0, 0, 0, 0, 0),
-        _ => row(0, 0, 0, 0, 0, 0, 0, 0, 0),
+        kinds::NAME_PLACE => row(NAMES, [SCOPE, ENTRY, NONE], [0; 4]),
+        kinds::TYPE_PLACE => row(TYPES, [LIST, PARAMETER, NONE], [0; 4]),
+        kinds::PARSE_RESULT => row(PARSED, [ROOT_NAME, ROOT_TYPE, NONE], [GUARD, 0, 0, 0]),
+        kinds::SYMBOL => row(SYMBOL, [OWN_NAME, SCOPE, NONE], [0; 4]),
+        kinds::OUTER_SYMBOL => row(OUTER, [OUTER_NAME, SCOPE, NONE], [0; 4]),
+        kinds::MD5 => bytes(MD5),
+        kinds::OPERATOR => row(OPERATOR, [NONE; 3], [LAST_OPERATOR, 0, 0, 0]),
+        kinds::RTTI_TYPE_DESCRIPTOR => row(OPERATOR, [TYPE, NONE, NONE], [CLASS, 0, 0, 0]),
+        kinds::RTTI_BASE_CLASS_DESCRIPTOR => row(OPERATOR, [NONE; 3], [ANY; 4]),
+        kinds::NON_TEMPLATE => bytes(PLAIN),
+        kinds::AS_INTERFACE => bytes(SCOPED),
+        kinds::TEMPLATE => row(PLAIN, [TEMPLATED, LIST, NONE], [0; 4]),
+        kinds::DISCRIMINATOR => row(NESTED, [NONE; 3], [ANY, 0, 0, 0]),
+        kinds::PARSED_NAME => row(NESTED, [PARSED, NONE, NONE], [0; 4]),
+        kinds::ANONYMOUS_ID => bytes(SCOPED),
+        kinds::ANONYMOUS => row(NESTED, [NONE; 3], [0; 4]),
+        kinds::NONE => row(NO_TYPE, [NONE; 3], [0; 4]),
+        _ => row(0, [0; 3], [0; 4]),
     }
 }
 
 // The shape of any other kind, a row each: types.
+#[tactic(auto, unfolding(crate::specs::Kinds::whole_shape, crate::specs::Kinds::shape_of))]
 fn type_shape(kind: u32) -> Shape
     requires { kind_number MemberFunction ≤ kind }
     ensures { result ≡ whole_shape kind }
 {
     match kind {
-        kinds::MEMBER_FUNCTION => row(OUTER_TYPE, RETURN, LIST, NONE, CLASS, CONV, ACCESS, 0, 0),
+        kinds::MEMBER_FUNCTION => row(OUTER_TYPE, [RETURN, LIST, NONE], [CLASS, CONV, ACCESS, 0]),
         kinds::MEMBER_FUNCTION_POINTER => row(
-            VAR_TYPE, RETURN, LIST, SYMBOL, CLASS, CONV, ACCESS, 0, 0,
+            VAR_TYPE,
+            [RETURN, LIST, SYMBOL],
+            [CLASS, CONV, ACCESS, 0],
         ),
-        kinds::NON_MEMBER_FUNCTION => row(FUNCTION, TYPE, LIST, NONE, CLASS, CONV, 0, 0, 0),
-        kinds::VBTABLE..=kinds::VFTABLE => row(OUTER_TYPE, SCOPE, NONE, NONE, CLASS, 0, 0, 0, 0),
-        kinds::VCALL_THUNK => row(OUTER_TYPE, NONE, NONE, NONE, ANY, CONV, 0, 0, 0),
-        kinds::TEMPLATE_PARAMETER_WITH_INDEX => row(VAR_TYPE, NONE, NONE, NONE, ANY, 0, 0, 0, 0),
-        kinds::THREAD_SAFE_STATIC_GUARD => row(OUTER_TYPE, NONE, NONE, NONE, ANY, 0, 0, 0, 0),
-        kinds::CONSTANT => row(VAR_TYPE, NONE, NONE, NONE, ANY, 0, 0, 0, 0),
-        kinds::CONSTANT_STRING => row(OUTER_TYPE, NONE, NONE, NONE, ANY, ANY, 0, 0, RANGED),
-        kinds::PTR..=kinds::RVALUE_REF => row(VAR_TYPE, TYPE, NONE, NONE, CLASS, 0, 0, 0, 0),
-        kinds::ARRAY => row(VAR_TYPE, TYPE, NONE, NONE, CLASS, ANY, 0, 0, 0),
-        kinds::VAR => row(OUTER_TYPE, TYPE, NONE, NONE, CLASS, STORAGE, 0, 0, 0),
-        kinds::ALIAS..=kinds::ENUM => row(VAR_TYPE, SYMBOL, NONE, NONE, CLASS, 0, 0, 0, 0),
-        kinds::VOID..=kinds::LDOUBLE => row(VAR_TYPE, NONE, NONE, NONE, CLASS, 0, 0, 0, 0),
-        kinds::VAR_ARGS => row(VAR_ARGS, NONE, NONE, NONE, 0, 0, 0, 0, 0),
-        kinds::EMPTY_PARAMETER_PACK..=kinds::NULLPTR => row(
-            VAR_TYPE, NONE, NONE, NONE, 0, 0, 0, 0, 0,
-        ),
-        kinds::RTTI_TYPE => row(OUTER_TYPE, NONE, NONE, NONE, 0, 0, 0, 0, 0),
-        _ => row(0, 0, 0, 0, 0, 0, 0, 0, 0),
+        kinds::NON_MEMBER_FUNCTION => row(FUNCTION, [TYPE, LIST, NONE], [CLASS, CONV, 0, 0]),
+        kinds::VBTABLE..=kinds::VFTABLE => row(OUTER_TYPE, [SCOPE, NONE, NONE], [CLASS, 0, 0, 0]),
+        kinds::VCALL_THUNK => row(OUTER_TYPE, [NONE; 3], [ANY, CONV, 0, 0]),
+        kinds::TEMPLATE_PARAMETER_WITH_INDEX => row(VAR_TYPE, [NONE; 3], [ANY, 0, 0, 0]),
+        kinds::THREAD_SAFE_STATIC_GUARD => row(OUTER_TYPE, [NONE; 3], [ANY, 0, 0, 0]),
+        kinds::CONSTANT => row(VAR_TYPE, [NONE; 3], [ANY, 0, 0, 0]),
+        kinds::CONSTANT_STRING => bytes(OUTER_TYPE),
+        kinds::PTR..=kinds::RVALUE_REF => row(VAR_TYPE, [TYPE, NONE, NONE], [CLASS, 0, 0, 0]),
+        kinds::ARRAY => row(VAR_TYPE, [TYPE, NONE, NONE], [CLASS, ANY, 0, 0]),
+        kinds::VAR => row(OUTER_TYPE, [TYPE, NONE, NONE], [CLASS, STORAGE, 0, 0]),
+        kinds::ALIAS..=kinds::ENUM => row(VAR_TYPE, [SYMBOL, NONE, NONE], [CLASS, 0, 0, 0]),
+        kinds::VOID..=kinds::LDOUBLE => row(VAR_TYPE, [NONE; 3], [CLASS, 0, 0, 0]),
+        kinds::VAR_ARGS => row(VAR_ARGS, [NONE; 3], [0; 4]),
+        kinds::EMPTY_PARAMETER_PACK..=kinds::NULLPTR => row(VAR_TYPE, [NONE; 3], [0; 4]),
+        kinds::RTTI_TYPE => row(OUTER_TYPE, [NONE; 3], [0; 4]),
+        _ => row(0, [0; 3], [0; 4]),
     }
 }
 
@@ -121,148 +114,134 @@ fn shape_of(kind: u32) -> Shape
     ensures { result ≡ whole_shape kind }
 {
     if kind < FIRST_TYPE {
-        return name_shape(kind);
+        name_shape(kind)
+    } else {
+        type_shape(kind)
     }
-    type_shape(kind)
 }
 
 // Whether what stands in a class may stand where a mask of classes is asked for.
+#[tactic(auto, unfolding(crate::specs::Form::fits))]
 fn is_fit(mask: usize, class: usize) -> bool
     ensures { result ≡ fits mask class }
 {
-    if class == 0 {
-        return false;
-    }
-    mask / class % 2 == 1
+    class != 0 && mask / class % 2 == 1
 }
 
-// Whether reference r of node n names an earlier node that fits the mask; 0 names nothing.
-fn is_ref_ok(table: &[u32], n: usize, mask: usize, r: usize) -> bool
-    ensures { result ≡ ref_ok table.now n mask r }
-{
-    if r == 0 {
-        return is_fit(mask, 1);
-    }
-    let m = r - 1;
-    if n <= m {
-        return false;
-    }
-    let found = shape_of(kind(table, m));
-    is_fit(mask, found.class)
+// A node of a table, and the shape of its kind.
+#[derive(Clone, Copy)]
+struct Shaped<'a> {
+    table: &'a [u32],
+    n: usize,
+    shape: Shape,
+    ghost of_kind: { shape ≡ whole_shape (cell_of table.now n KIND) },
 }
 
-fn larger(a: usize, b: usize) -> usize
-    ensures { result ≡ max a b }
+fn node_at(table: &[u32], n: usize) -> Shaped<'_>
+    ensures same_table { result.table.now ≡ table.now }
+    ensures same_node { result.n ≡ n }
 {
-    if a <= b { b } else { a }
+    Shaped {
+        table,
+        n,
+        shape: shape_of(kind(table, n)),
+    }
 }
 
-// Whether a node stands as high as it says: a place as high as what it holds, anything else one above.
-fn is_height_ok(table: &[u32], n: usize) -> bool
-    ensures { result ≡ height_ok table.now n }
-{
-    let a = height(table, cell(table, n, cells::A));
-    let b = height(table, cell(table, n, cells::B));
-    let c = height(table, cell(table, n, cells::C));
-    let top = larger(larger(a, b), c);
-    let k = kind(table, n);
-    let h = cell(table, n, cells::HEIGHT);
-    if k <= kinds::TYPE_PLACE {
-        return h == top;
+impl<'a> Shaped<'a> {
+    fn cell(&self, j: usize) -> usize
+        ensures { (result ≡ cell_of self.now.table.now self.now.n j) × (result < 2 ^ 32) }
+    {
+        cell(self.table, self.n, j)
     }
-    h == top + 1
-}
 
-// Whether each number of node n is no larger than its kind allows.
-fn are_numbers_ok(table: &[u32], n: usize, shape: Shape) -> bool
-    requires { shape ≡ whole_shape (cell_of table.now n KIND) }
-    ensures { result ≡ numbers_ok table.now n }
-{
-    if shape.p < cell(table, n, cells::P) {
-        return false;
+    // Whether reference r of the node names an earlier node that fits the mask; 0 names nothing.
+    #[tactic(auto, unfolding(crate::specs::Form::ref_ok, crate::specs::Kinds::whole_shape))]
+    fn is_ref_ok(&self, mask: usize, r: usize) -> bool
+        ensures { result ≡ ref_ok self.now.table.now self.now.n mask r }
+    {
+        if r == 0 {
+            return is_fit(mask, 1);
+        }
+        let m = r - 1;
+        if self.n <= m {
+            return false;
+        }
+        is_fit(mask, shape_of(kind(self.table, m)).class)
     }
-    if shape.q < cell(table, n, cells::Q) {
-        return false;
-    }
-    if shape.r < cell(table, n, cells::R) {
-        return false;
-    }
-    cell(table, n, cells::S) <= shape.s
-}
 
-// Whether the bytes that a node names lie in a symbol of len bytes.
-fn is_range_ok(table: &[u32], len: usize, n: usize, shape: Shape) -> bool
-    requires { shape ≡ whole_shape (cell_of table.now n KIND) }
-    ensures { result ≡ range_ok table.now len n }
-{
-    if shape.ranged == 0 {
-        return true;
+    // Whether the three references name what the kind asks for.
+    #[tactic(auto, unfolding(crate::specs::Form::refs_ok, crate::specs::Kinds::whole_shape))]
+    fn are_refs_ok(&self) -> bool
+        ensures { result ≡ refs_ok self.now.table.now self.now.n }
+    {
+        let [a, b, c] = self.shape.refs;
+        self.is_ref_ok(a, self.cell(cells::A))
+            && self.is_ref_ok(b, self.cell(cells::B))
+            && self.is_ref_ok(c, self.cell(cells::C))
     }
-    cell(table, n, cells::P) + cell(table, n, cells::Q) <= len
-}
 
-// Whether the cells that no kind uses are 0.
-fn is_rest_ok(table: &[u32], n: usize) -> bool
-    ensures { result ≡ rest_ok table.now n }
-{
-    if cell(table, n, cells::FROM) != 0 {
-        return false;
+    // Whether each number is no larger than the kind allows.
+    #[tactic(auto, unfolding(crate::specs::Form::numbers_ok, crate::specs::Form::number_ok, crate::specs::Kinds::whole_shape))]
+    fn are_numbers_ok(&self) -> bool
+        ensures { result ≡ numbers_ok self.now.table.now self.now.n }
+    {
+        let [p, q, r, s] = self.shape.most;
+        self.cell(cells::P) <= p
+            && self.cell(cells::Q) <= q
+            && self.cell(cells::R) <= r
+            && self.cell(cells::S) <= s
     }
-    if cell(table, n, cells::TO) != 0 {
-        return false;
-    }
-    cell(table, n, cells::LAST) == 0
-}
 
-// Whether the three references of a node name what its kind asks for.
-fn are_refs_ok(table: &[u32], n: usize, shape: Shape) -> bool
-    requires { shape ≡ whole_shape (cell_of table.now n KIND) }
-    ensures { result ≡ refs_ok table.now n }
-{
-    if !is_ref_ok(table, n, shape.a, cell(table, n, cells::A)) {
-        return false;
+    // Whether the bytes that the node names lie in a symbol of len bytes.
+    #[tactic(auto, unfolding(crate::specs::Form::range_ok, crate::specs::Kinds::whole_shape))]
+    fn is_range_ok(&self, len: usize) -> bool
+        ensures { result ≡ range_ok self.now.table.now len self.now.n }
+    {
+        !self.shape.ranged || self.cell(cells::P) + self.cell(cells::Q) <= len
     }
-    if !is_ref_ok(table, n, shape.b, cell(table, n, cells::B)) {
-        return false;
-    }
-    is_ref_ok(table, n, shape.c, cell(table, n, cells::C))
-}
 
-// Whether a node is well formed, in a table for a symbol of len bytes.
-fn is_node_ok(table: &[u32], len: usize, n: usize) -> bool
-    ensures { result ≡ node_ok table.now len n }
-{
-    let shape = shape_of(kind(table, n));
-    if shape.class == 0 {
-        return false;
+    // Whether the cells that no kind uses are 0.
+    #[tactic(auto, unfolding(crate::specs::Form::rest_ok))]
+    fn is_rest_ok(&self) -> bool
+        ensures { result ≡ rest_ok self.now.table.now self.now.n }
+    {
+        self.cell(cells::FROM) == 0 && self.cell(cells::TO) == 0 && self.cell(cells::LAST) == 0
     }
-    if !are_refs_ok(table, n, shape) {
-        return false;
+
+    // Whether the node stands as high as it says: a place as high as what it holds, anything else one above.
+    #[tactic(auto, unfolding(crate::specs::Form::height_ok))]
+    fn is_height_ok(&self) -> bool
+        ensures { result ≡ height_ok self.now.table.now self.now.n }
+    {
+        let a = height(self.table, self.cell(cells::A));
+        let b = height(self.table, self.cell(cells::B));
+        let c = height(self.table, self.cell(cells::C));
+        let top = a.max(b).max(c);
+        let h = self.cell(cells::HEIGHT);
+        if kind(self.table, self.n) <= kinds::TYPE_PLACE {
+            return h == top;
+        }
+        h == top + 1
     }
-    if !are_numbers_ok(table, n, shape) {
-        return false;
+
+    // Whether the node is well formed, in a table for a symbol of len bytes.
+    #[tactic(auto, unfolding(crate::specs::Form::node_ok, crate::specs::Kinds::whole_shape))]
+    fn is_ok(&self, len: usize) -> bool
+        ensures { result ≡ node_ok self.now.table.now len self.now.n }
+    {
+        self.shape.class != 0
+            && self.are_refs_ok()
+            && self.are_numbers_ok()
+            && self.is_range_ok(len)
+            && self.is_rest_ok()
+            && self.is_height_ok()
     }
-    if !is_range_ok(table, len, n, shape) {
-        return false;
-    }
-    if !is_rest_ok(table, n) {
-        return false;
-    }
-    is_height_ok(table, n)
 }
 
 // Whether each whole node of the table is well formed, for a symbol of len bytes.
 pub fn is_well_formed(table: &[u32], len: usize) -> bool
     ensures { result ≡ well_formed table.now len (nodes table.now) }
 {
-    let count = room(table);
-    let mut n = 0;
-    while n < count {
-        if is_node_ok(table, len, n) {
-            n += 1;
-        } else {
-            return false;
-        }
-    }
-    true
+    (0..room(table)).all(|n| node_at(table, n).is_ok(len))
 }

@@ -1,43 +1,14 @@
 -- What nodes hold themselves. Assumes nothing.
-use Prim.Native.Nat.{ℕ, suc, ◌+◌, ◌-◌, ◌≤◌, ◌<◌}
+use Prim.Native.Nat.{ℕ, suc}
 use mathlib.Core.Bool.{Bool, true, false, ◌&&◌, and-true, and_comm, and_assoc}
 use mathlib.Core.Path.{◌≡◌, refl, sym, ap, ◌∙◌}
 use mathlib.Core.List.{List, [], ◌∷◌}
-use native.Mathlib.Omega.{arith}
 use lib.Dec.{eqb}
-use lib.ListN.{length, get_or, take, drop}
-use borrow.Author.Tests.{eq-eqb, ne_eqb, le-leb, lt-leb, eqb-true}
+use lib.ListN.{length}
+use borrow.Author.Tests.{eq-eqb, ne_eqb, eqb-true}
 use Rattle.node.specs.Cells.{cell_of}
-use Rattle.scan.proofs.Laws.{split, past}
-use Rattle.meaning.specs.Tree.{part, decoded, content_of, shown, numbers_of, bytes_of, eq_list, eq_own, eq_content}
-use Rattle.meaning.proofs.Trees.{eq_list-refl}
-
--- the bytes of a name
-pub part_in : (l : List ℕ) (s n : ℕ) → s + n ≤ length l → take (s + n - s) (drop s l) ≡ part l s n
-unfolding part
-part_in l s n h = let e : s + n - s ≡ n = omega arith in rw (e, le-leb _ _ h)
-
-pub part_out : (l : List ℕ) (s n : ℕ) → length l < s + n → [] ≡ part l s n
-unfolding part
-part_out l s n h = rw (lt-leb _ _ h)
-
--- two lists, from the i-th on
-module _ (a b : List ℕ) (i : ℕ) where
-  abbrev pub rest : Bool
-  rest = eq_list (drop i a) (drop i b)
-
-  pub rest_end : length a ≤ i → length b ≤ i → rest ≡ true
-  unfolding eq_list
-  rest_end h g = rw (past a i h, past b i g)
-
-  module _ (h : i < length a) (g : i < length b) where
-    pub rest-same : get_or a i 0 ≡ get_or b i 0 → rest ≡ eq_list (drop (i + 1) a) (drop (i + 1) b)
-    unfolding eq_list
-    rest-same e = rw (split a i h, split b i g, eq-eqb _ _ e)
-
-    pub rest-other : (get_or a i 0 ≡ get_or b i 0 → ⊥) → rest ≡ false
-    unfolding eq_list
-    rest-other e = rw (split a i h, split b i g, ne_eqb _ _ e)
+use Rattle.meaning.specs.Tree.{part, content_of, shown, numbers_of, bytes_of, eq_list, eq_own, eq_content, eq_numbers}
+use Rattle.meaning.proofs.Trees.{and_both, eq_list-refl}
 
 pub length-other : (x y : List ℕ) → (length x ≡ length y → ⊥) → eq_list x y ≡ false
 unfolding eq_list
@@ -61,12 +32,6 @@ module _ (t s : List ℕ) (i j : ℕ) where
         content_of (cell_of t i 0) ≡ 1 → eq_content t s i j ≡ eq_list (part s (cell_of t i 7) (cell_of t i 8)) (part s (cell_of t j 7) (cell_of t j 8))
     unfolding eq_content bytes_of
     content-bytes e = rw (← k, ne_eqb (content_of (cell_of t i 0)) 0 z, eq-eqb (content_of (cell_of t i 0)) 1 e)
-
-    pub content-string :
-        (content_of (cell_of t i 0) ≡ 1 → ⊥)
-        → eq_content t s i j ≡ eq_list (decoded (part s (cell_of t i 7) (cell_of t i 8))) (decoded (part s (cell_of t j 7) (cell_of t j 8)))
-    unfolding eq_content bytes_of
-    content-string e = rw (← k, ne_eqb (content_of (cell_of t i 0)) 0 z, ne_eqb (content_of (cell_of t i 0)) 1 e)
 
 last-first : (p q r s : Bool) → p && (q && (r && (s && true))) ≡ r && (s && (p && q))
 last-first p q r s = rw (and-true s) (sym (and_assoc p q (r && s)) ∙ and_comm (p && q) (r && s) ∙ and_assoc r s (p && q))
@@ -125,6 +90,16 @@ module _ (t s : List ℕ) (i j : ℕ) where
       pick true false e9 e10 = own-10 e0 e9 e10
       pick true true e9 e10 = own-content e0 e9 e10 ∙ z
 
+  -- the cells that tell most apart first
+  pub own_is : eq_own t s i j ≡ eqb (cell_of t i 0) (cell_of t j 0) && (eqb (cell_of t i 9) (cell_of t j 9) && (eqb (cell_of t i 10) (cell_of t j 10) && eq_content t s i j))
+  own_is = pick (eqb (cell_of t i 0) (cell_of t j 0)) (eqb (cell_of t i 9) (cell_of t j 9)) (eqb (cell_of t i 10) (cell_of t j 10)) refl refl refl
+    where
+      pick : (a b d : Bool) → eqb (cell_of t i 0) (cell_of t j 0) ≡ a → eqb (cell_of t i 9) (cell_of t j 9) ≡ b → eqb (cell_of t i 10) (cell_of t j 10) ≡ d → eq_own t s i j ≡ a && (b && (d && eq_content t s i j))
+      pick false b d e0 e9 e10 = own-0 e0
+      pick true false d e0 e9 e10 = own-9 e0 e9
+      pick true true false e0 e9 e10 = own-10 e0 e9 e10
+      pick true true true e0 e9 e10 = own-content e0 e9 e10
+
 -- nodes of one kind and with the same numbers
 module _ (t s : List ℕ) (i j : ℕ) (e0 : eqb (cell_of t i 0) (cell_of t j 0) ≡ true) (e7 : eqb (cell_of t i 7) (cell_of t j 7) ≡ true) (e8 : eqb (cell_of t i 8) (cell_of t j 8) ≡ true) where
   bytes_same : bytes_of t s i ≡ bytes_of t s j
@@ -139,3 +114,11 @@ module _ (t s : List ℕ) (i j : ℕ) (e0 : eqb (cell_of t i 0) (cell_of t j 0) 
     pub own_same : eq_own t s i j ≡ true
     unfolding eq_own
     own_same = rw (e0, numbers-same, bytes_same, eq_list-refl (numbers_of t j)) (eq_list-refl (bytes_of t s j))
+
+pub own_equal : (t s : List ℕ) (i j : ℕ) → eq_numbers t i j ≡ true → eq_own t s i j ≡ true
+own_equal t s i j e =
+    let a = and_both _ _ e in
+    let b = and_both _ _ a.1 in
+    let d = and_both _ _ b.1 in
+    let f = and_both _ _ d.1 in
+    own_same t s i j a.0 b.0 d.0 f.0 f.1

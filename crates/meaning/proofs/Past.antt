@@ -5,10 +5,10 @@ use mathlib.Core.Path.{◌≡◌, refl, sym, ap, ap₂, ◌∙◌}
 use mathlib.Core.List.{List, [], ◌∷◌}
 use native.Mathlib.Decide.{ℕ_discrete}
 use native.Mathlib.Omega.{arith}
-use borrow.Author.Tests.{le-leb, le-ltb}
+use borrow.Author.Tests.{le-leb, le-ltb, eqb-true}
 use Rattle.node.specs.Cells.{nodes, cell_of}
-use Rattle.meaning.specs.Tree.{Tree, none, numbers_of, bytes_of, content_of, tree_of, blank_tree, kid_of, eq_tree}
-use Rattle.meaning.proofs.Trees.{true-false, eq_tree-refl, eq_tree-sound, node_is, tree-none, tree_is}
+use Rattle.meaning.specs.Tree.{Tree, none, numbers_of, bytes_of, content_of, tree_of, blank_tree, is_blank, kid_of, eq_tree}
+use Rattle.meaning.proofs.Trees.{true-false, and_both, eq_tree-refl, eq_tree-sound, node_is, tree-none, tree_is}
 use Rattle.meaning.proofs.Compare.{same-one}
 
 -- what the cells of such a node are
@@ -94,3 +94,15 @@ module _ (t y : List ℕ) (r : ℕ) (hr : 1 ≤ r) where
 
   pub past-second : (q : ℕ) → nodes t < r → eq_tree (tree_of t y q) blank_tree ≡ eq_tree (tree_of t y q) (tree_of t y r)
   past-second q h = ap (eq_tree (tree_of t y q)) (sym (past-tree h))
+
+-- what the code asks of the cells
+pub blank_told : (t y : List ℕ) (r : ℕ) → 1 ≤ r → is_blank t (r - 1) ≡ eq_tree (tree_of t y r) blank_tree
+blank_told t y r hr = pick (is_blank t (r - 1)) refl
+  where
+    pick : (b : Bool) → is_blank t (r - 1) ≡ b → b ≡ eq_tree (tree_of t y r) blank_tree
+    pick true e =
+        let a = and_both _ _ e in
+        let b = and_both _ _ a.1 in
+        let d = and_both _ _ b.1 in
+        sym (is-blank t y r hr (record { cells = eqb-true _ _ a.0; first = eqb-true _ _ b.0; second = eqb-true _ _ d.0; third = eqb-true _ _ d.1 }))
+    pick false e = sym (not-blank t y r hr (λ b. true-false (sym (rw (b.cells, b.first, b.second, b.third)) ∙ e)))

@@ -5,12 +5,13 @@
 use Prim.Native.Nat.{ℕ, zero, suc, ◌+◌, ◌-◌, ◌≤◌, ◌<◌}
 use mathlib.Core.Bool.{Bool, true, false, cond, ◌&&◌}
 use mathlib.Core.Logic.{◌↔◌}
-use mathlib.Core.Path.{◌≡◌, refl, sym, ap, ap₂, ◌∙◌}
-use mathlib.Core.List.{List, [], ◌∷◌}
+use mathlib.Core.Path.{◌≡◌, refl, sym, ap, ◌∙◌}
+use mathlib.Core.List.{List}
 use native.Mathlib.Decide.{ℕ_discrete, dec_le}
 use native.Mathlib.Omega.{arith}
 use lib.Dec.{eqb, leb}
 use borrow.Author.Tests.{eq-eqb, le-leb, lt-leb, eqb-true}
+use Rattle.std.proofs.lemmas.Slice.Eq.{bytes_eq-Decides}
 use Rattle.node.specs.Cells.{cell_of}
 use Rattle.meaning.specs.Below.{below}
 use Rattle.meaning.specs.Tree.{Tree, none, node, numbers_of, bytes_of, tree, tree_at, tree_of, kid_of, eq_list, eq_tree}
@@ -19,22 +20,18 @@ use Rattle.meaning.proofs.Below.{below_none, below-past, below_at}
 pub true-false : {A : Type 0} → true ≡ false → A
 true-false e = let z : ◌≡◌ {A = ℕ} 0 1 = cc in absurd (omega arith)
 
-and_both : (a b : Bool) → a && b ≡ true → (a ≡ true) × (b ≡ true)
+pub and_both : (a b : Bool) → a && b ≡ true → (a ≡ true) × (b ≡ true)
 and_both true b e = (refl, e)
 and_both false b e = true-false (sym e)
 
 -- equality of lists and of trees
 pub eq_list-refl : (x : List ℕ) → eq_list x x ≡ true
 unfolding eq_list
-eq_list-refl [] = refl
-eq_list-refl (x ∷ xs) = rw (eq-eqb x x refl) (eq_list-refl xs)
+eq_list-refl x = (bytes_eq-Decides x x).1 refl
 
 eq_list-sound : (x y : List ℕ) → eq_list x y ≡ true → x ≡ y
 unfolding eq_list
-eq_list-sound [] [] e = refl
-eq_list-sound [] (y ∷ ys) e = true-false (sym e)
-eq_list-sound (x ∷ xs) [] e = true-false (sym e)
-eq_list-sound (x ∷ xs) (y ∷ ys) e = let b = and_both (eqb x y) (eq_list xs ys) e in ap₂ ◌∷◌ (eqb-true x y b.0) (eq_list-sound xs ys b.1)
+eq_list-sound x y = (bytes_eq-Decides x y).0
 
 pub eq_tree-refl : (a : Tree) → eq_tree a a ≡ true
 unfolding eq_tree

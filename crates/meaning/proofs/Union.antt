@@ -4,14 +4,14 @@ use mathlib.Core.Bool.{true, false}
 use mathlib.Core.Path.{◌≡◌, refl, sym, ap, ◌∙◌}
 use mathlib.Core.List.{List}
 use native.Mathlib.Decide.{ℕ_discrete, dec_le, dec_lt}
-use native.Mathlib.Nat.{le_refl}
 use native.Mathlib.Omega.{arith}
 use lib.Dec.{eqb}
 use lib.ListN.{length, get_or, set, replicate, length-replicate, get_or-replicate, get_or-eq_default}
 use lib.Seq.{get_or-set_same, get_or-set_other, set_out}
-use borrow.Author.Tests.{eqb-true, ne_eqb, lt-ltb, le-ltb}
+use borrow.Author.Tests.{eqb-true, eq-eqb, ne_eqb, lt-ltb, le-ltb}
+use Rattle.std.specs.Prelude.{Some, None}
 use Rattle.meaning.specs.Tree.{Tree}
-use Rattle.meaning.specs.Links.{held_of, link, link_of, note_of, Held, Links, Falls, Way, Joins, Parts}
+use Rattle.meaning.specs.Links.{held_of, link, link_of, some_link, note_of, Held, Links, Falls, Way, Joins, Parts}
 
 -- what a number says
 link-low : {v : ℕ} → v < 32768 → link v ≡ v
@@ -38,18 +38,11 @@ held_at l zero h = absurd (omega arith)
 held_at l (suc x) h = let e : suc x - 1 ≡ x = omega arith in rw e
 
 -- the link of a reference, as the code reads it
-pub link-none : (l : List ℕ) (x : ℕ) → x ≡ 0 → 0 ≡ link_of l x
-unfolding link_of
-link-none l x e = sym (ap link (held-zero l x e) ∙ link-low (omega arith))
-
 pub link-past : (l : List ℕ) (x : ℕ) → length l < x → 0 ≡ link_of l x
 unfolding link_of
 link-past l x h = sym (ap link (held-past l x h) ∙ link-low (omega arith))
 
 module _ (l : List ℕ) (x : ℕ) (h : 1 ≤ x) where
-  pub held_fits : Falls l → get_or l (x - 1) 0 < 65536
-  held_fits k = omega (arith, held_at l x h, (k x).0)
-
   pub link-is : get_or l (x - 1) 0 < 32768 → get_or l (x - 1) 0 ≡ link_of l x
   unfolding link_of
   link-is g = sym (ap link (held_at l x h) ∙ link-low g)
@@ -58,6 +51,28 @@ module _ (l : List ℕ) (x : ℕ) (h : 1 ≤ x) where
   unfolding link_of
   link-not g = sym (ap link (held_at l x h) ∙ link-high g)
 
+pub some-is : {v w : ℕ} → v ≡ w → 1 ≤ v → Some v ≡ some_link w
+some-is {v} {w} e h = rw (ne_eqb w 0 (λ z. omega (arith, e, z))) (ap (λ x. Some x) e)
+
+pub none-is : {w : ℕ} → 0 ≡ w → None ≡ some_link w
+none-is {w} e = rw (eq-eqb w 0 (sym e))
+
+pub is-some : {w y : ℕ} → Some y ≡ some_link w → (y ≡ w) × (1 ≤ y)
+is-some {w} {y} e = pick (ℕ_discrete w 0)
+  where
+    pick : Dec (w ≡ 0) → (y ≡ w) × (1 ≤ y)
+    pick (yes z) = let f : Some y ≡ None = rw (eq-eqb w 0 z) at e in absurd (cc)
+    pick (no z) = let f : Some y ≡ Some w = rw (ne_eqb w 0 z) at e in
+        let g : y ≡ w = cc in
+        (g, omega (arith, g, z))
+
+pub is-none : {w : ℕ} → None ≡ some_link w → w ≡ 0
+is-none {w} e = pick (ℕ_discrete w 0)
+  where
+    pick : Dec (w ≡ 0) → w ≡ 0
+    pick (yes z) = z
+    pick (no z) = let f : None ≡ Some w = rw (ne_eqb w 0 z) at e in absurd (cc)
+
 -- a note, as the code reads it
 module _ (l : List ℕ) (x y : ℕ) (hx : 1 ≤ x) where
   pub note-past : length l < y → false ≡ eqb (note_of l y) x
@@ -65,10 +80,6 @@ module _ (l : List ℕ) (x y : ℕ) (hx : 1 ≤ x) where
   note-past h = sym (ne_eqb (held_of l y - 32768) x (λ z. omega (arith, held-past l y h, z)))
 
   module _ (hy : 1 ≤ y) where
-    pub note-not : get_or l (y - 1) 0 < 32768 → false ≡ eqb (note_of l y) x
-    unfolding note_of
-    note-not h = sym (ne_eqb (held_of l y - 32768) x (λ z. omega (arith, held_at l y hy, z)))
-
     pub note-is : eqb (get_or l (y - 1) 0 - 32768) x ≡ eqb (note_of l y) x
     unfolding note_of
     note-is = ap (λ v. eqb (v - 32768) x) (sym (held_at l y hy))
@@ -86,9 +97,6 @@ links-fall k x = ((k.all x).fits, (k.all x).low)
 linked-same : {f : ℕ → Tree} {l : List ℕ} → Links f l → (x : ℕ) {y : ℕ} → y ≡ link_of l x → 1 ≤ y → f y ≡ f x
 unfolding link_of
 linked-same {f} k x e h = ap f e ∙ (k.all x).same (omega (arith, e))
-
-pub way-here : (l : List ℕ) (r : ℕ) → Way l l r r
-way-here l r = record { low = le_refl r; same = λ f k. refl; kept = λ f k. k }
 
 -- one link further
 pub way_next : {l k : List ℕ} {r p : ℕ} (y : ℕ) → Falls k → Way l k r p → y ≡ link_of k p → 1 ≤ y → Way l k r y
@@ -129,9 +137,6 @@ module _ (l : List ℕ) (x v : ℕ) (h : 1 ≤ x) where
   links-set : {f : ℕ → Tree} → Links f l → Held f x v → Links f (set l (x - 1) v)
   links-set {f} k p = record { all = each (Held f) k.all p }
 
-pub joins-none : (l : List ℕ) (x y : ℕ) → Joins l l x y
-joins-none l x y = record { falls = λ k. k; holds = λ f k e. k }
-
 pub joins-flip : {l k : List ℕ} {x y : ℕ} → Joins l k y x → Joins l k x y
 joins-flip j = record { falls = j.falls; holds = λ f k e. j.holds f k (sym e) }
 
@@ -147,9 +152,6 @@ joins_set l x y h b =
         apart = λ i. absurd (omega arith);
       });
     }
-
-pub parts_none : (l : List ℕ) (x y : ℕ) → Parts l l x y
-parts_none l x y = record { holds = λ f k n. k }
 
 pub parts-set : (l : List ℕ) (x y : ℕ) → x < 32768 → 1 ≤ y → Parts l (set l (y - 1) (32768 + x)) x y
 parts-set l x y b h =

@@ -1,5 +1,7 @@
 -- Links between references of equal meaning, notes of references that differ, and an answer within a budget. Assumes nothing.
-use Rattle.std.specs.Prelude.{ℕ, zero, suc, ◌-◌, ◌≤◌, ◌<◌, Bool, true, false, cond, ◌≡◌, List, ltb, get_or}
+use Rattle.std.specs.Prelude.{ℕ, zero, suc, ◌-◌, ◌≤◌, ◌<◌, Bool, true, false, cond, ◌≡◌, List, Option, Some, None, Result, Ok, Err, ltb, eqb, get_or}
+use Rattle.meaning.specs.declared.Unequal.{Unequal}
+use Rattle.meaning.specs.declared.Unequal.TheVariants.{Differ}
 use Rattle.meaning.specs.Tree.{Tree}
 
 -- what l holds for a reference: nothing for none, and nothing past its end
@@ -13,6 +15,10 @@ link v = cond (ltb v 32768) v 0
 
 unfoldable pub link_of : List ℕ → ℕ → ℕ
 link_of l x = link (held_of l x)
+
+-- a link, if there is one
+abbrev pub some_link : ℕ → Option ℕ
+some_link v = cond (eqb v 0) None (Some v)
 
 unfoldable pub note_of : List ℕ → ℕ → ℕ
 note_of l x = held_of l x - 32768
@@ -51,7 +57,7 @@ pub record Joins (l l' : List ℕ) (x y : ℕ) : Type 0 where
 pub record Parts (l l' : List ℕ) (x y : ℕ) : Type 0 where
   pub holds : (f : ℕ → Tree) → Links f l → (f x ≡ f y → ⊥) → Links f l'
 
--- 0 says no, 1 that the budget is spent, and more says yes
-pub record Judged (e : Bool) (v : ℕ) : Type 0 where
-  pub no : v ≡ 0 → e ≡ false
-  pub yes : 2 ≤ v → e ≡ true
+-- an answer within a budget: what differs is unequal, what is told to be the same is equal, and a spent budget says nothing
+pub record Judged {A : Type 0} (e : Bool) (v : Result A Unequal) : Type 0 where
+  pub no : v ≡ Err Differ → e ≡ false
+  pub yes : (x : A) → v ≡ Ok x → e ≡ true

@@ -6,6 +6,9 @@ use Rattle.node.specs.Cells.{cell_of}
 use Rattle.node.specs.Kind.{kind_number, Md5, NonTemplate, AsInterface, AnonymousId, ConstantString}
 use Rattle.strings.specs.Encoded.{character}
 use Rattle.scan.specs.Cursor.{Leaf}
+use Rattle.std.specs.Str.{bytes_eq}
+use Rattle.meaning.specs.declared.Content.{Content}
+use Rattle.meaning.specs.declared.Content.TheVariants.{Numbers, Bytes, Encoded}
 use Rattle.meaning.specs.Below.{below}
 
 -- the kind, the numbers and the bytes of a node, and what its three references mean
@@ -37,6 +40,12 @@ content_of k =
     (cond (eqb k (kind_number AsInterface)) 1
     (cond (eqb k (kind_number AnonymousId)) 1
     (cond (eqb k (kind_number ConstantString)) 2 0))))
+
+-- the same, as the code has it
+abbrev pub content_number : Content → ℕ
+content_number Numbers = 0
+content_number Bytes = 1
+content_number Encoded = 2
 
 -- the first or second number of a kind; 0 for a place in the symbol, which does not show
 abbrev pub shown : ℕ → ℕ → ℕ
@@ -70,11 +79,14 @@ blank_tree = node 0 (0 ∷ 0 ∷ 0 ∷ 0 ∷ []) [] none none none
 unfoldable pub kid_of : List ℕ → ℕ → ℕ → ℕ
 kid_of t n j = cond (leb (cell_of t n j) n) (cell_of t n j) 0
 
+-- the same, told by the cells of node n
+abbrev pub is_blank : List ℕ → ℕ → Bool
+is_blank t n =
+    eqb (cell_of t n cells.KIND + (cell_of t n cells.P + cell_of t n cells.Q + cell_of t n cells.R + cell_of t n cells.S)) 0
+    && (eqb (kid_of t n cells.A) 0 && (eqb (kid_of t n cells.B) 0 && eqb (kid_of t n cells.C) 0))
+
 unfoldable pub eq_list : List ℕ → List ℕ → Bool
-eq_list [] [] = true
-eq_list [] (y ∷ ys) = false
-eq_list (x ∷ xs) [] = false
-eq_list (x ∷ xs) (y ∷ ys) = eqb x y && eq_list xs ys
+eq_list = bytes_eq
 
 unfoldable pub eq_tree : Tree → Tree → Bool
 eq_tree none none = true
@@ -92,3 +104,21 @@ unfoldable pub eq_content : List ℕ → List ℕ → ℕ → ℕ → Bool
 eq_content t sym i j =
     cond (eqb (content_of (cell_of t i cells.KIND)) 0) (eqb (cell_of t i cells.P) (cell_of t j cells.P) && eqb (cell_of t i cells.Q) (cell_of t j cells.Q))
     (eq_list (bytes_of t sym i) (bytes_of t sym j))
+
+-- what both hold, and their second and third references
+abbrev pub eq_but_first : List ℕ → List ℕ → ℕ → ℕ → Bool
+eq_but_first t sym i j =
+    eq_own t sym i j
+    && (eq_tree (tree_of t sym (kid_of t i cells.B)) (tree_of t sym (kid_of t j cells.B)) && eq_tree (tree_of t sym (kid_of t i cells.C)) (tree_of t sym (kid_of t j cells.C)))
+
+-- told by cells alone: one kind and the same numbers, and the same references
+abbrev pub eq_numbers : List ℕ → ℕ → ℕ → Bool
+eq_numbers t i j =
+    eqb (cell_of t i cells.KIND) (cell_of t j cells.KIND)
+    && (eqb (cell_of t i cells.P) (cell_of t j cells.P)
+    && (eqb (cell_of t i cells.Q) (cell_of t j cells.Q)
+    && (eqb (cell_of t i cells.R) (cell_of t j cells.R) && eqb (cell_of t i cells.S) (cell_of t j cells.S))))
+
+abbrev pub eq_kids : List ℕ → ℕ → ℕ → Bool
+eq_kids t i j =
+    eqb (kid_of t i cells.A) (kid_of t j cells.A) && (eqb (kid_of t i cells.B) (kid_of t j cells.B) && eqb (kid_of t i cells.C) (kid_of t j cells.C))

@@ -1,19 +1,20 @@
 // What nodes mean, and whether two mean the same.
 #![tactic(auto)]
 
-ghost use Rattle.std.specs.Prelude.{◌≡◌, ℕ, ◌≤◌, ◌<◌, ◌^◌, eqb, Bool, true, false, ◌&&◌, List};
+ghost use Rattle.std.specs.Prelude.{◌≡◌, ℕ, ◌-◌, ◌≤◌, ◌<◌, ◌^◌, eqb, true, false, List};
 ghost use Rattle.node.specs.Cells as cells;
 ghost use Rattle.node.specs.Cells.{nodes, cell_of, KIND};
-ghost use Rattle.meaning.specs.Tree.{part, decoded, content_of, tree_of, kid_of, blank_tree, eq_list, eq_tree, eq_content, eq_own};
+ghost use Rattle.meaning.specs.Tree.{part, decoded, content_of, content_number, tree_of, kid_of, is_blank, eq_list, eq_tree, eq_content, eq_own, eq_numbers, eq_kids, eq_but_first};
 ghost use Rattle.meaning.specs.Links.{Links, Judged};
 
 pub mod links;
 
 use crate::links::{LINKS, find, link, note, noted};
-use node::{cells, kinds};
+use node::{CELLS, cells, kinds};
 use strings::encoded::read_character;
 
 // The reference in cell j of node n, 0 where it names no earlier node.
+#[tactic(auto, unfolding(crate::specs::Tree::kid_of))]
 pub fn kid(table: &[u32], n: usize, j: usize) -> usize
     ensures { (result ≡ kid_of table.now n j) × (result ≤ n) }
 {
@@ -22,33 +23,14 @@ pub fn kid(table: &[u32], n: usize, j: usize) -> usize
 }
 
 // The n bytes of the symbol from s on; none where it has them not all.
+#[tactic(auto, unfolding(crate::specs::Tree::part))]
 pub fn part_of(symbol: &[u8], s: usize, n: usize) -> &[u8]
     ensures { result.now ≡ part symbol.now s n }
 {
-    if symbol.len() < s {
-        return &symbol[..0];
+    if s <= symbol.len() && n <= symbol.len() - s {
+        return &symbol[s..s + n];
     }
-    if symbol.len() - s < n {
-        return &symbol[..0];
-    }
-    let e = s + n;
-    &symbol[s..e]
-}
-
-fn same_bytes(a: &[u8], b: &[u8]) -> bool
-    ensures { result ≡ eq_list a.now b.now }
-{
-    if a.len() != b.len() {
-        return false;
-    }
-    let mut i = 0;
-    while i < a.len() {
-        if a[i] != b[i] {
-            return false;
-        }
-        i += 1;
-    }
-    true
+    &symbol[..0]
 }
 
 // Whether two encoded strings stand for the same bytes.
@@ -86,421 +68,476 @@ fn same_string(a: &[u8], b: &[u8]) -> bool
 }
 
 // What the first two numbers of a kind are: numbers, or a start and a length in the symbol, of bytes or of an encoded string.
-const NUMBERS: usize = 0;
+#[derive(Clone, Copy)]
+enum Content {
+    Numbers,
+    Bytes,
+    Encoded,
+}
 
-const BYTES: usize = 1;
-
-const ENCODED: usize = 2;
-
-fn content(kind: u32) -> usize
-    ensures { result ≡ content_of kind }
+#[tactic(auto, unfolding(crate::specs::Tree::content_of))]
+fn content_of(kind: u32) -> Content
+    ensures { content_of kind ≡ content_number result }
 {
     match kind {
-        kinds::MD5 => BYTES,
-        kinds::NON_TEMPLATE => BYTES,
-        kinds::AS_INTERFACE => BYTES,
-        kinds::ANONYMOUS_ID => BYTES,
-        kinds::CONSTANT_STRING => ENCODED,
-        _ => NUMBERS,
+        kinds::MD5 | kinds::NON_TEMPLATE | kinds::AS_INTERFACE | kinds::ANONYMOUS_ID =>
+            Content::Bytes,
+        kinds::CONSTANT_STRING => Content::Encoded,
+        _ => Content::Numbers,
     }
 }
 
-// Cell c of node n, which the table has: this is not asked again for each cell.
-fn at(table: &[u32], n: usize, c: usize) -> usize
-    requires { (n < nodes table.now) × (c < 12) }
-    ensures { (result ≡ cell_of table.now n c) × (result < 2 ^ 32) }
-{
-    let i = n * node::CELLS + c;
-    table[i] as usize
+// Two nodes that the table has. So their cells are read without asking again.
+#[derive(Clone, Copy)]
+struct Pair<'a> {
+    table: &'a [u32],
+    symbol: &'a [u8],
+    i: usize,
+    j: usize,
+    ghost first_held: { i < nodes table.now },
+    ghost second_held: { j < nodes table.now },
 }
 
-// The kind of a node that the table has.
-fn kind_at(table: &[u32], n: usize) -> u32
-    requires { n < nodes table.now }
-    ensures { result ≡ cell_of table.now n KIND }
-{
-    at(table, n, cells::KIND) as u32
-}
-
-// What `kid` is, of a node that the table has.
-fn kid_at(table: &[u32], n: usize, c: usize) -> usize
-    requires { (n < nodes table.now) × (c < 12) }
-    ensures { (result ≡ kid_of table.now n c) × (result ≤ n) }
-{
-    let r = at(table, n, c);
-    if r <= n { r } else { 0 }
-}
-
-// The bytes of the symbol that node n names.
-fn bytes_at<'a>(table: &[u32], symbol: &'a [u8], n: usize) -> &'a [u8]
-    requires { n < nodes table.now }
-    ensures { result.now ≡ part symbol.now (cell_of table.now n cells.P) (cell_of table.now n cells.Q) }
-{
-    let s = at(table, n, cells::P);
-    let e = s + at(table, n, cells::Q);
-    if e <= symbol.len() {
-        return &symbol[s..e];
+impl<'a> Pair<'a> {
+    // Cell c of both.
+    #[tactic(auto, unfolding(node::specs::Cells::cell_of))]
+    fn cells(&self, c: usize) -> (usize, usize)
+        requires { c < 12 }
+        ensures first { (result.0 ≡ cell_of self.now.table.now self.now.i c) × (result.0 < 2 ^ 32) }
+        ensures second { (result.1 ≡ cell_of self.now.table.now self.now.j c) × (result.1 < 2 ^ 32) }
+    {
+        let first = self.table[self.i * CELLS + c];
+        let second = self.table[self.j * CELLS + c];
+        (first as usize, second as usize)
     }
-    &symbol[..0]
-}
 
-fn same_cell(table: &[u32], i: usize, j: usize, c: usize) -> bool
-    requires { (i < nodes table.now) × (j < nodes table.now) × (c < 12) }
-    ensures { result ≡ eqb (cell_of table.now i c) (cell_of table.now j c) }
-{
-    at(table, i, c) == at(table, j, c)
-}
+    // What `kid` is, of both.
+    #[tactic(auto, unfolding(crate::specs::Tree::kid_of))]
+    fn kids(&self, c: usize) -> (usize, usize)
+        requires { c < 12 }
+        ensures first { (result.0 ≡ kid_of self.now.table.now self.now.i c) × (result.0 ≤ self.now.i) }
+        ensures second { (result.1 ≡ kid_of self.now.table.now self.now.j c) × (result.1 ≤ self.now.j) }
+    {
+        let (r, q) = self.cells(c);
+        (
+            if r <= self.i { r } else { 0 },
+            if q <= self.j { q } else { 0 },
+        )
+    }
 
-// Nodes i and j of one kind: their bytes, or the numbers in their place.
-fn same_content(table: &[u32], symbol: &[u8], i: usize, j: usize) -> bool
-    requires { (i < nodes table.now) × (j < nodes table.now) × (cell_of table.now i KIND ≡ cell_of table.now j KIND) }
-    ensures { result ≡ eq_content table.now symbol.now i j }
-{
-    let what = content(kind_at(table, i));
-    if what == NUMBERS {
-        if same_cell(table, i, j, cells::P) {
-            return same_cell(table, i, j, cells::Q);
+    fn same_cell(&self, c: usize) -> bool
+        requires { c < 12 }
+        ensures { result ≡ eqb (cell_of self.now.table.now self.now.i c) (cell_of self.now.table.now self.now.j c) }
+    {
+        let (a, b) = self.cells(c);
+        a == b
+    }
+
+    // What the numbers of the first are.
+    fn content(&self) -> Content
+        ensures { content_of (cell_of self.now.table.now self.now.i KIND) ≡ content_number result }
+    {
+        content_of(self.cells(cells::KIND).0 as u32)
+    }
+
+    // The bytes of the symbol that they name.
+    fn bytes(&self) -> (&'a [u8], &'a [u8])
+        ensures first { result.0.now ≡ part self.now.symbol.now (cell_of self.now.table.now self.now.i cells.P) (cell_of self.now.table.now self.now.i cells.Q) }
+        ensures second { result.1.now ≡ part self.now.symbol.now (cell_of self.now.table.now self.now.j cells.P) (cell_of self.now.table.now self.now.j cells.Q) }
+    {
+        let (s, t) = self.cells(cells::P);
+        let (n, m) = self.cells(cells::Q);
+        (part_of(self.symbol, s, n), part_of(self.symbol, t, m))
+    }
+
+    // Nodes of one kind: their bytes, or the numbers in their place.
+    #[tactic(auto, unfolding(crate::specs::Tree::eq_content, crate::specs::Tree::bytes_of, crate::specs::Tree::eq_list))]
+    fn same_content(&self) -> bool
+        requires { cell_of self.now.table.now self.now.i KIND ≡ cell_of self.now.table.now self.now.j KIND }
+        ensures { result ≡ eq_content self.now.table.now self.now.symbol.now self.now.i self.now.j }
+    {
+        let (a, b) = self.bytes();
+        match self.content() {
+            Content::Numbers => self.same_cell(cells::P) && self.same_cell(cells::Q),
+            Content::Bytes => a == b,
+            Content::Encoded => same_string(a, b),
         }
-        return false;
     }
-    let a = bytes_at(table, symbol, i);
-    let b = bytes_at(table, symbol, j);
-    if what == BYTES {
-        return same_bytes(a, b);
-    }
-    same_string(a, b)
-}
 
-// Nodes i and j, without what they refer to.
-fn same_own(table: &[u32], symbol: &[u8], i: usize, j: usize) -> bool
-    requires { (i < nodes table.now) × (j < nodes table.now) }
-    ensures { result ≡ eq_own table.now symbol.now i j }
-{
-    if same_cell(table, i, j, cells::KIND) {
-        if same_cell(table, i, j, cells::R) {
-            if same_cell(table, i, j, cells::S) {
-                return same_content(table, symbol, i, j);
+    // The nodes, without what they refer to.
+    #[tactic(auto, using(crate::proofs::Own::own_is))]
+    fn same_own(&self) -> bool
+        ensures { result ≡ eq_own self.now.table.now self.now.symbol.now self.now.i self.now.j }
+    {
+        self.same_cell(cells::KIND)
+            && self.same_cell(cells::R)
+            && self.same_cell(cells::S)
+            && self.same_content()
+    }
+
+    // Whether they may hold the same: most that do not are told by their cells, before any bytes are looked at.
+    fn alike(&self) -> bool
+        ensures { result ≡ false → eq_own self.now.table.now self.now.symbol.now self.now.i self.now.j ≡ false }
+    {
+        if !self.same_cell(cells::KIND) {
+            return false;
+        }
+        match self.content() {
+            Content::Numbers => self.same_cell(cells::P),
+            Content::Bytes => {
+                let (a, b) = self.bytes();
+                a.len() == b.len()
             }
+            Content::Encoded => true,
         }
     }
-    false
-}
 
-// Whether nodes i and j may hold the same: most that do not are told by their cells, before any bytes are looked at.
-fn alike(table: &[u32], symbol: &[u8], i: usize, j: usize) -> bool
-    requires { (i < nodes table.now) × (j < nodes table.now) }
-    ensures { result ≡ false → eq_own table.now symbol.now i j ≡ false }
-{
-    if !same_cell(table, i, j, cells::KIND) {
-        return false;
+    // Whether they have one kind and the same numbers.
+    fn same_numbers(&self) -> bool
+        ensures { result ≡ eq_numbers self.now.table.now self.now.i self.now.j }
+    {
+        self.same_cell(cells::KIND)
+            && self.same_cell(cells::P)
+            && self.same_cell(cells::Q)
+            && self.same_cell(cells::R)
+            && self.same_cell(cells::S)
     }
-    let what = content(kind_at(table, i));
-    if what == NUMBERS {
-        return same_cell(table, i, j, cells::P);
-    }
-    if what == BYTES {
-        let a = bytes_at(table, symbol, i);
-        let b = bytes_at(table, symbol, j);
-        return a.len() == b.len();
-    }
-    true
-}
 
-// Whether r and q are told to mean the same by their cells alone: one reference, or nodes with the same cells.
-fn twins(table: &[u32], r: usize, q: usize) -> bool
-    requires { (r ≤ nodes table.now) × (q ≤ nodes table.now) }
-    ensures { (s : List ℕ) → result ≡ true → tree_of table.now s r ≡ tree_of table.now s q }
-{
-    if r == q {
-        return true;
+    // Whether they have the same references.
+    fn same_kids(&self) -> bool
+        ensures { result ≡ eq_kids self.now.table.now self.now.i self.now.j }
+    {
+        self.same_kid(cells::A) && self.same_kid(cells::B) && self.same_kid(cells::C)
     }
-    if r == 0 {
-        return false;
-    }
-    if q == 0 {
-        return false;
-    }
-    let i = r - 1;
-    let j = q - 1;
-    if kid_at(table, i, cells::A) != kid_at(table, j, cells::A) {
-        return false;
-    }
-    if kid_at(table, i, cells::B) != kid_at(table, j, cells::B) {
-        return false;
-    }
-    if kid_at(table, i, cells::C) != kid_at(table, j, cells::C) {
-        return false;
-    }
-    same_numbers(table, i, j)
-}
 
-// Whether nodes i and j have one kind and the same numbers.
-fn same_numbers(table: &[u32], i: usize, j: usize) -> bool
-    requires { (i < nodes table.now) × (j < nodes table.now) }
-    ensures { (s : List ℕ) → result ≡ true → eq_own table.now s i j ≡ true }
-{
-    if !same_cell(table, i, j, cells::KIND) {
-        return false;
+    fn same_kid(&self, c: usize) -> bool
+        requires { c < 12 }
+        ensures { result ≡ eqb (kid_of self.now.table.now self.now.i c) (kid_of self.now.table.now self.now.j c) }
+    {
+        let (r, q) = self.kids(c);
+        r == q
     }
-    if !same_cell(table, i, j, cells::P) {
-        return false;
-    }
-    if !same_cell(table, i, j, cells::Q) {
-        return false;
-    }
-    if !same_cell(table, i, j, cells::R) {
-        return false;
-    }
-    same_cell(table, i, j, cells::S)
-}
 
-// Whether r and q are told to mean the same by their cells, or by links.
-fn met(table: &[u32], symbol: &[u8], links: &mut [u16], r: usize, q: usize) -> bool
-    requires { (r ≤ nodes table.now) × (q ≤ nodes table.now) × Links (tree_of table.now symbol.now) links.old }
-    ensures { (result ≡ true → tree_of table.now symbol.now r ≡ tree_of table.now symbol.now q) × Links (tree_of table.now symbol.now) links.new }
-{
-    if twins(table, r, q) {
-        return true;
-    }
-    find(links, r) == find(links, q)
-}
-
-// Links two references of equal meaning, and so on along their chains of first references.
-fn join(table: &[u32], symbol: &[u8], links: &mut [u16], r: usize, q: usize)
-    requires { (r ≤ nodes table.now) × (q ≤ nodes table.now) × Links (tree_of table.now symbol.now) links.old × (tree_of table.now symbol.now r ≡ tree_of table.now symbol.now q) }
-    ensures { Links (tree_of table.now symbol.now) links.new }
-{
-    let mut x = r;
-    let mut y = q;
-    while x != y {
-        let i = x - 1;
-        let j = y - 1;
-        link(links, x, y);
-        x = find(links, kid_at(table, i, cells::A));
-        y = find(links, kid_at(table, j, cells::A));
-    }
-}
-
-// How many steps along first references end in a note if the rest differs.
-const STRETCH: usize = 64;
-
-// Whether r and q mean the same: links to what is found equal, and a note of what is found to differ.
-#[cycle(walks)]
-fn linked(table: &[u32], symbol: &[u8], links: &mut [u16], r: usize, q: usize) -> bool
-    requires { (r ≤ nodes table.now) × (q ≤ nodes table.now) × Links (tree_of table.now symbol.now) links.old }
-    ensures { (result ≡ eq_tree (tree_of table.now symbol.now r) (tree_of table.now symbol.now q)) × Links (tree_of table.now symbol.now) links.new }
-{
-    let x = find(links, r);
-    let y = find(links, q);
-    if x == y {
-        return true;
-    }
-    if x == 0 {
-        return false;
-    }
-    if y == 0 {
-        return false;
-    }
-    if walk(table, symbol, links, x, y) {
-        join(table, symbol, links, x, y);
-        return true;
-    }
-    note(links, x, y);
-    false
-}
-
-// The second references of nodes i and j: entries of lists, mostly, of which most are told at once.
-#[cycle(walks)]
-fn second(table: &[u32], symbol: &[u8], links: &mut [u16], i: usize, j: usize) -> bool
-    requires { (i < nodes table.now) × (j < nodes table.now) × Links (tree_of table.now symbol.now) links.old }
-    ensures { (result ≡ eq_tree (tree_of table.now symbol.now (kid_of table.now i cells.B)) (tree_of table.now symbol.now (kid_of table.now j cells.B))) × Links (tree_of table.now symbol.now) links.new }
-{
-    let r = kid_at(table, i, cells::B);
-    let q = kid_at(table, j, cells::B);
-    if met(table, symbol, links, r, q) {
-        return true;
-    }
-    linked(table, symbol, links, r, q)
-}
-
-// The third references of nodes i and j: few kinds have one.
-#[cycle(walks)]
-fn third(table: &[u32], symbol: &[u8], links: &mut [u16], i: usize, j: usize) -> bool
-    requires { (i < nodes table.now) × (j < nodes table.now) × Links (tree_of table.now symbol.now) links.old }
-    ensures { (result ≡ eq_tree (tree_of table.now symbol.now (kid_of table.now i cells.C)) (tree_of table.now symbol.now (kid_of table.now j cells.C))) × Links (tree_of table.now symbol.now) links.new }
-{
-    let r = kid_at(table, i, cells::C);
-    let q = kid_at(table, j, cells::C);
-    if r == q {
-        return true;
-    }
-    linked(table, symbol, links, r, q)
-}
-
-// Recursion over the second and the third references and a loop along the first.
-#[cycle(walks)]
-fn walk(table: &[u32], symbol: &[u8], links: &mut [u16], r: usize, q: usize) -> bool
-    requires { (r ≤ nodes table.now) × (q ≤ nodes table.now) × Links (tree_of table.now symbol.now) links.old }
-    ensures { (result ≡ eq_tree (tree_of table.now symbol.now r) (tree_of table.now symbol.now q)) × Links (tree_of table.now symbol.now) links.new }
-{
-    let mut x = r;
-    let mut y = q;
-    let mut left = STRETCH;
-    while x != y {
-        if x == 0 {
-            return false;
+    // What a visit takes from the budget: names may be long, and are compared byte by byte.
+    fn cost(&self) -> usize
+        ensures { result < 2 ^ 32 }
+    {
+        match self.content() {
+            Content::Numbers => 1,
+            _ => self.cells(cells::Q).0 / BYTES_A_VISIT + 1,
         }
-        if y == 0 {
-            return false;
-        }
-        if noted(links, x, y) {
-            return false;
-        }
-        let i = x - 1;
-        let j = y - 1;
-        if !same_own(table, symbol, i, j) {
-            return false;
-        }
-        if !second(table, symbol, links, i, j) {
-            return false;
-        }
-        if !third(table, symbol, links, i, j) {
-            return false;
-        }
-        let a = kid_at(table, i, cells::A);
-        let b = kid_at(table, j, cells::A);
-        left -= 1;
-        if left == 0 {
-            return linked(table, symbol, links, a, b);
-        }
-        x = find(links, a);
-        y = find(links, b);
     }
-    true
+
+    // The references in cell c, after others.
+    #[cycle(plainly)]
+    fn plain_kids(&self, c: usize, left: usize) -> Result<usize, Unequal>
+        requires { c < 12 }
+        ensures { Judged (eq_tree (tree_of self.now.table.now self.now.symbol.now (kid_of self.now.table.now self.now.i c)) (tree_of self.now.table.now self.now.symbol.now (kid_of self.now.table.now self.now.j c))) result }
+    {
+        let (r, q) = self.kids(c);
+        let Pair { table, symbol, .. } = *self;
+        let kids = Refs {
+            table,
+            symbol,
+            r,
+            q,
+        };
+        if kids.are_twins() {
+            Ok(left)
+        } else {
+            kids.plain(left)
+        }
+    }
+
+    // What they hold, and their second and third references.
+    #[cycle(walks)]
+    fn same_but_first(&self, links: &mut [u16]) -> bool
+        requires { Links (tree_of self.now.table.now self.now.symbol.now) links.old }
+        ensures { (result ≡ eq_but_first self.now.table.now self.now.symbol.now self.now.i self.now.j) × Links (tree_of self.now.table.now self.now.symbol.now) links.new }
+    {
+        self.same_own() && self.linked_kids(cells::B, links) && self.linked_kids(cells::C, links)
+    }
+
+    // The same with links: of the second references, entries of lists mostly, most are told at once.
+    #[cycle(walks)]
+    fn linked_kids(&self, c: usize, links: &mut [u16]) -> bool
+        requires of_node { c < 12 }
+        requires links { Links (tree_of self.now.table.now self.now.symbol.now) links.old }
+        ensures { (result ≡ eq_tree (tree_of self.now.table.now self.now.symbol.now (kid_of self.now.table.now self.now.i c)) (tree_of self.now.table.now self.now.symbol.now (kid_of self.now.table.now self.now.j c))) × Links (tree_of self.now.table.now self.now.symbol.now) links.new }
+    {
+        let (r, q) = self.kids(c);
+        let Pair { table, symbol, .. } = *self;
+        let kids = Refs {
+            table,
+            symbol,
+            r,
+            q,
+        };
+        kids.met(links) || kids.linked(links)
+    }
 }
 
-// The budget of a plain recursion: 32 visits to nodes without bytes, and 2.
-pub const VISITS: usize = 34;
-
-// The answer when the budget is spent.
-pub const SPENT: usize = 1;
+// The budget of a plain recursion: 32 visits to nodes without bytes.
+pub const VISITS: usize = 32;
 
 // So many bytes cost as much as a visit.
 const BYTES_A_VISIT: usize = 16;
 
-// What a visit to node n takes from the budget: names may be long, and are compared byte by byte.
-fn cost_of(table: &[u32], n: usize) -> usize
-    requires { n < nodes table.now }
-    ensures { result < 2 ^ 32 }
-{
-    if content(kind_at(table, n)) == NUMBERS {
-        return 1;
-    }
-    at(table, n, cells::Q) / BYTES_A_VISIT + 1
+// How many steps along first references end in a note if the rest differs.
+const STRETCH: usize = 64;
+
+// Why two references are not told to mean the same: they differ, or the budget is spent.
+#[derive(Clone, Copy)]
+pub enum Unequal {
+    Differ,
+    Spent,
 }
 
-// The references in cell c of nodes i and j, after others with this answer.
-#[cycle(plainly)]
-fn plain_kid(table: &[u32], symbol: &[u8], i: usize, j: usize, c: usize, left: usize) -> usize
-    requires { (i < nodes table.now) × (j < nodes table.now) × (c < 12) }
-    ensures { (e : Bool) → Judged e left → Judged (e && eq_tree (tree_of table.now symbol.now (kid_of table.now i c)) (tree_of table.now symbol.now (kid_of table.now j c))) result }
-{
-    if left < 2 {
-        return left;
-    }
-    let r = kid_at(table, i, c);
-    let q = kid_at(table, j, c);
-    if twins(table, r, q) {
-        return left;
-    }
-    plain(table, symbol, r, q, left)
+// Two references, each to a node that the table has, or to none.
+#[derive(Clone, Copy)]
+struct Refs<'a> {
+    table: &'a [u32],
+    symbol: &'a [u8],
+    r: usize,
+    q: usize,
+    ghost first_held: { r ≤ nodes table.now },
+    ghost second_held: { q ≤ nodes table.now },
 }
 
-// Plain recursion. 0: they differ; 1: the budget is spent; else they are the same, and this is left of the budget.
-#[cycle(plainly)]
-fn plain(table: &[u32], symbol: &[u8], r: usize, q: usize, left: usize) -> usize
-    requires { (r ≤ nodes table.now) × (q ≤ nodes table.now) × (2 ≤ left) }
-    ensures { Judged (eq_tree (tree_of table.now symbol.now r) (tree_of table.now symbol.now q)) result }
-{
-    if r == q {
-        return left;
-    }
-    if r == 0 {
-        return 0;
-    }
-    if q == 0 {
-        return 0;
-    }
-    let i = r - 1;
-    let j = q - 1;
-    if same_own(table, symbol, i, j) {
-        let cost = cost_of(table, i);
-        if left < cost + 2 {
-            return SPENT;
+impl<'a> Refs<'a> {
+    // Whether they are told to mean the same by their cells alone: one reference, or nodes with the same cells.
+    fn are_twins(&self) -> bool
+        ensures { result ≡ true → tree_of self.now.table.now self.now.symbol.now self.now.r ≡ tree_of self.now.table.now self.now.symbol.now self.now.q }
+    {
+        let Refs {
+            table,
+            symbol,
+            r,
+            q,
+        } = *self;
+        if r == q {
+            return true;
         }
-        let x = kid_at(table, i, cells::A);
-        let y = kid_at(table, j, cells::A);
-        let a = plain(table, symbol, x, y, left - cost);
-        let b = plain_kid(table, symbol, i, j, cells::B, a);
-        return plain_kid(table, symbol, i, j, cells::C, b);
+        if r == 0 || q == 0 {
+            return false;
+        }
+        let pair = Pair {
+            table,
+            symbol,
+            i: r - 1,
+            j: q - 1,
+        };
+        pair.same_kids() && pair.same_numbers()
     }
-    0
+
+    // Whether they are told to mean the same by their cells, or by links.
+    fn met(&self, links: &mut [u16]) -> bool
+        requires { Links (tree_of self.now.table.now self.now.symbol.now) links.old }
+        ensures { (result ≡ true → tree_of self.now.table.now self.now.symbol.now self.now.r ≡ tree_of self.now.table.now self.now.symbol.now self.now.q) × Links (tree_of self.now.table.now self.now.symbol.now) links.new }
+    {
+        if self.are_twins() {
+            return true;
+        }
+        find(links, self.r) == find(links, self.q)
+    }
+
+    // Links them, of equal meaning, and so on along their chains of first references.
+    fn join(&self, links: &mut [u16])
+        requires links { Links (tree_of self.now.table.now self.now.symbol.now) links.old }
+        requires same { tree_of self.now.table.now self.now.symbol.now self.now.r ≡ tree_of self.now.table.now self.now.symbol.now self.now.q }
+        ensures { Links (tree_of self.now.table.now self.now.symbol.now) links.new }
+    {
+        let Refs { table, symbol, .. } = *self;
+        let mut x = self.r;
+        let mut y = self.q;
+        while x != y {
+            let pair = Pair {
+                table,
+                symbol,
+                i: x - 1,
+                j: y - 1,
+            };
+            link(links, x, y);
+            let (a, b) = pair.kids(cells::A);
+            x = find(links, a);
+            y = find(links, b);
+        }
+    }
+
+    // Whether they mean the same: links to what is found equal, and a note of what is found to differ.
+    #[cycle(walks)]
+    fn linked(&self, links: &mut [u16]) -> bool
+        requires { Links (tree_of self.now.table.now self.now.symbol.now) links.old }
+        ensures { (result ≡ eq_tree (tree_of self.now.table.now self.now.symbol.now self.now.r) (tree_of self.now.table.now self.now.symbol.now self.now.q)) × Links (tree_of self.now.table.now self.now.symbol.now) links.new }
+    {
+        let Refs {
+            table,
+            symbol,
+            r,
+            q,
+        } = *self;
+        let x = find(links, r);
+        let y = find(links, q);
+        if x == y {
+            return true;
+        }
+        if x == 0 || y == 0 {
+            return false;
+        }
+        let found = Refs {
+            table,
+            symbol,
+            r: x,
+            q: y,
+        };
+        if found.walk(links) {
+            found.join(links);
+            return true;
+        }
+        note(links, x, y);
+        false
+    }
+
+    // Recursion over the second and the third references and a loop along the first.
+    #[cycle(walks)]
+    fn walk(&self, links: &mut [u16]) -> bool
+        requires { Links (tree_of self.now.table.now self.now.symbol.now) links.old }
+        ensures { (result ≡ eq_tree (tree_of self.now.table.now self.now.symbol.now self.now.r) (tree_of self.now.table.now self.now.symbol.now self.now.q)) × Links (tree_of self.now.table.now self.now.symbol.now) links.new }
+    {
+        let Refs { table, symbol, .. } = *self;
+        let mut x = self.r;
+        let mut y = self.q;
+        let mut left = STRETCH;
+        while x != y {
+            if x == 0 || y == 0 || noted(links, x, y) {
+                return false;
+            }
+            let pair = Pair {
+                table,
+                symbol,
+                i: x - 1,
+                j: y - 1,
+            };
+            if !pair.same_but_first(links) {
+                return false;
+            }
+            let (r, q) = pair.kids(cells::A);
+            left -= 1;
+            if left == 0 {
+                return Refs {
+                    table,
+                    symbol,
+                    r,
+                    q,
+                }
+                .linked(links);
+            }
+            x = find(links, r);
+            y = find(links, q);
+        }
+        true
+    }
+
+    // Plain recursion: what is left of the budget if they mean the same.
+    #[cycle(plainly)]
+    fn plain(&self, left: usize) -> Result<usize, Unequal>
+        ensures { Judged (eq_tree (tree_of self.now.table.now self.now.symbol.now self.now.r) (tree_of self.now.table.now self.now.symbol.now self.now.q)) result }
+    {
+        let Refs {
+            table,
+            symbol,
+            r,
+            q,
+        } = *self;
+        if r == q {
+            return Ok(left);
+        }
+        if r == 0 || q == 0 {
+            return Err(Unequal::Differ);
+        }
+        let pair = Pair {
+            table,
+            symbol,
+            i: r - 1,
+            j: q - 1,
+        };
+        if !pair.same_own() {
+            return Err(Unequal::Differ);
+        }
+        let left = left.checked_sub(pair.cost()).ok_or(Unequal::Spent)?;
+        let (x, y) = pair.kids(cells::A);
+        let left = Refs {
+            table,
+            symbol,
+            r: x,
+            q: y,
+        }
+        .plain(left)?;
+        let left = pair.plain_kids(cells::B, left)?;
+        pair.plain_kids(cells::C, left)
+    }
 }
 
 // Whether r means what a node past the table does: no kind, no numbers, no references.
 fn blank(table: &[u32], r: usize) -> bool
     requires { 1 ≤ r }
-    ensures { (s : List ℕ) → result ≡ eq_tree (tree_of table.now s r) blank_tree }
+    ensures { result ≡ is_blank table.now (r - 1) }
 {
     let n = r - 1;
     let numbers = node::cell(table, n, cells::P)
         + node::cell(table, n, cells::Q)
         + node::cell(table, n, cells::R)
         + node::cell(table, n, cells::S);
-    if node::cell(table, n, cells::KIND) + numbers != 0 {
-        return false;
-    }
-    if kid(table, n, cells::A) != 0 {
-        return false;
-    }
-    if kid(table, n, cells::B) != 0 {
-        return false;
-    }
-    if kid(table, n, cells::C) != 0 {
-        return false;
-    }
-    true
+    node::cell(table, n, cells::KIND) + numbers == 0
+        && kid(table, n, cells::A) == 0
+        && kid(table, n, cells::B) == 0
+        && kid(table, n, cells::C) == 0
 }
 
 // Yes or no as an answer within a budget.
-fn told(x: bool) -> usize
-    ensures { Judged x result × (result ≡ 1 → ⊥) }
+fn told(same: bool, left: usize) -> Result<usize, Unequal>
+    ensures { Judged same result }
 {
-    if x { 2 } else { 0 }
+    if same { Ok(left) } else { Err(Unequal::Differ) }
 }
 
-// Whether r and q mean the same, within a budget: 0 no, 1 it is spent, more yes. Most that are asked for differ in what they hold themselves.
-pub fn judge(table: &[u32], symbol: &[u8], r: usize, q: usize, left: usize) -> usize
-    requires { 2 ≤ left }
+// Whether r and q mean the same, within a budget: if so, what is left of it. Most that are asked for differ in what they hold.
+pub fn judge(
+    table: &[u32],
+    symbol: &[u8],
+    r: usize,
+    q: usize,
+    left: usize,
+) -> Result<usize, Unequal>
     ensures { Judged (eq_tree (tree_of table.now symbol.now r) (tree_of table.now symbol.now q)) result }
 {
-    if r == 0 {
-        return told(q == 0);
-    }
-    if q == 0 {
-        return 0;
+    if r == 0 || q == 0 {
+        return told(r == q, left);
     }
     let n = node::room(table);
     if n < r {
-        return told(blank(table, q));
+        return told(blank(table, q), left);
     }
     if n < q {
-        return told(blank(table, r));
+        return told(blank(table, r), left);
     }
-    if alike(table, symbol, r - 1, q - 1) {
-        return plain(table, symbol, r, q, left);
+    let nodes = Pair {
+        table,
+        symbol,
+        i: r - 1,
+        j: q - 1,
+    };
+    if nodes.alike() {
+        Refs {
+            table,
+            symbol,
+            r,
+            q,
+        }
+        .plain(left)
+    } else {
+        Err(Unequal::Differ)
     }
-    0
 }
 
 // The same without a budget, and with links: those of several questions may stand in one slice.
@@ -508,11 +545,8 @@ pub fn same_linked(table: &[u32], symbol: &[u8], links: &mut [u16], r: usize, q:
     requires { Links (tree_of table.now symbol.now) links.old }
     ensures { (result ≡ eq_tree (tree_of table.now symbol.now r) (tree_of table.now symbol.now q)) × Links (tree_of table.now symbol.now) links.new }
 {
-    if r == 0 {
-        return q == 0;
-    }
-    if q == 0 {
-        return false;
+    if r == 0 || q == 0 {
+        return r == q;
     }
     let n = node::room(table);
     if n < r {
@@ -521,17 +555,25 @@ pub fn same_linked(table: &[u32], symbol: &[u8], links: &mut [u16], r: usize, q:
     if n < q {
         return blank(table, r);
     }
-    linked(table, symbol, links, r, q)
+    Refs {
+        table,
+        symbol,
+        r,
+        q,
+    }
+    .linked(links)
 }
 
 // Whether r and q mean the same.
 pub fn same(table: &[u32], symbol: &[u8], r: usize, q: usize) -> bool
     ensures { result ≡ eq_tree (tree_of table.now symbol.now r) (tree_of table.now symbol.now q) }
 {
-    let v = judge(table, symbol, r, q, VISITS);
-    if v == SPENT {
-        let mut links = [0u16; LINKS];
-        return same_linked(table, symbol, &mut links, r, q);
+    match judge(table, symbol, r, q, VISITS) {
+        Ok(_) => true,
+        Err(Unequal::Differ) => false,
+        Err(Unequal::Spent) => {
+            let mut links = [0u16; LINKS];
+            same_linked(table, symbol, &mut links, r, q)
+        }
     }
-    v != 0
 }

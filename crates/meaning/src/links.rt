@@ -1,28 +1,22 @@
 // Links between references of equal meaning, and notes of references that differ: a number for each reference.
 ghost use Rattle.std.specs.Prelude.{◌≡◌, ◌≤◌, ◌<◌, eqb};
-ghost use Rattle.meaning.specs.Links.{link_of, note_of, Falls, Led, Joins, Parts};
+ghost use Rattle.meaning.specs.Links.{link_of, some_link, note_of, Falls, Led, Joins, Parts};
 
 // A number below is a link; one from here on is a note, and so much above the reference that it names.
+// Both in one number of 16 bits, and 0 for none: the memory is fixed, and 64 KiB of it are cleared for a question.
 // So as many can be linked as a symbol of 16,384 bytes may count, and one; those past it are compared too.
 pub const NOTES: usize = 32_768;
 
 // As many references can be linked.
 pub const LINKS: usize = NOTES;
 
-// The link of p, 0 where it has none.
-fn next(links: &[u16], p: usize) -> usize
+// The link of p, if it has one.
+fn next(links: &[u16], p: usize) -> Option<usize>
     requires { Falls links.now }
-    ensures { result ≡ link_of links.now p }
+    ensures { result ≡ some_link (link_of links.now p) }
 {
-    if p == 0 {
-        return 0;
-    }
-    if links.len() < p {
-        return 0;
-    }
-    let i = p - 1;
-    let y = links[i] as usize;
-    if y < NOTES { y } else { 0 }
+    let v = usize::from(*links.get(p.checked_sub(1)?)?);
+    if 0 < v && v < NOTES { Some(v) } else { None }
 }
 
 // Links x to y, where there is room for it.
@@ -30,12 +24,8 @@ fn point(links: &mut [u16], x: usize, y: usize)
     requires { y < x }
     ensures { Joins links.old links.new x y }
 {
-    if links.len() < x {
-        return;
-    }
-    if y < NOTES {
-        let i = x - 1;
-        links[i] = y as u16;
+    if x <= links.len() && y < NOTES {
+        links[x - 1] = y as u16;
     }
 }
 
@@ -45,15 +35,12 @@ pub fn find(links: &mut [u16], r: usize) -> usize
     ensures { Led links.old links.new r result }
 {
     let mut p = r;
-    let mut y = next(links, p);
-    while 0 < y {
-        let z = next(links, y);
-        if z == 0 {
+    while let Some(y) = next(links, p) {
+        let Some(z) = next(links, y) else {
             return y;
-        }
+        };
         point(links, p, z);
         p = z;
-        y = next(links, p);
     }
     p
 }
@@ -65,9 +52,9 @@ pub fn link(links: &mut [u16], x: usize, y: usize)
 {
     if x < y {
         point(links, y, x);
-        return;
+    } else {
+        point(links, x, y);
     }
-    point(links, x, y);
 }
 
 // Notes that y differs from x, where there is room for it: what is compared next may come to the same two again.
@@ -75,12 +62,8 @@ pub fn note(links: &mut [u16], x: usize, y: usize)
     requires { 1 ≤ y }
     ensures { Parts links.old links.new x y }
 {
-    if links.len() < y {
-        return;
-    }
-    if x < NOTES {
-        let i = y - 1;
-        links[i] = (NOTES + x) as u16;
+    if y <= links.len() && x < NOTES {
+        links[y - 1] = (NOTES + x) as u16;
     }
 }
 
@@ -89,10 +72,8 @@ pub fn noted(links: &[u16], x: usize, y: usize) -> bool
     requires { (1 ≤ x) × (1 ≤ y) × Falls links.now }
     ensures { result ≡ eqb (note_of links.now y) x }
 {
-    if links.len() < y {
-        return false;
+    match links.get(y - 1) {
+        Some(v) => usize::from(*v).saturating_sub(NOTES) == x,
+        None => false,
     }
-    let i = y - 1;
-    let v = links[i] as usize;
-    if v < NOTES { false } else { v - NOTES == x }
 }

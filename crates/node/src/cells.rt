@@ -1,4 +1,5 @@
 // The cells of a node by name: its kind, its height, three references, four numbers.
+// Numbers and no enum: they are places in the table, and `cell` promises 0 for any past the last.
 pub const KIND: usize = 0;
 
 pub const HEIGHT: usize = 1;

@@ -1,4 +1,5 @@
 // The kinds of nodes by name, as they stand in a table; docs/NODES.md says what each holds.
+// Numbers and no enum: a cell of a lent table may hold any, `kind` promises the cell itself, and C reads these.
 ghost use Rattle.std.specs.Prelude.{◌≡◌};
 ghost use Rattle.node.specs.Kind.{named_numbers};
 

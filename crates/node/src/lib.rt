@@ -30,46 +30,24 @@ pub fn room(table: &[u32]) -> usize
 }
 
 // Stores node n where there is room for it.
+#[tactic(auto, using(std::proofs::lemmas::Slice::overwrites), unfolding(crate::specs::Cells::stored))]
 pub fn put_node(table: &mut [u32], n: usize, x: Node)
     ensures { table.new ≡ stored table.old n x }
 {
-    if table.len() / CELLS <= n {
-        return;
+    if n < room(table) {
+        let i = n * CELLS;
+        table[i..i + CELLS].copy_from_slice(&[
+            x.kind, x.height, 0, 0, x.a, x.b, x.c, x.p, x.q, x.r, x.s, 0,
+        ]);
     }
-    let i0 = n * CELLS;
-    table[i0] = x.kind;
-    let i1 = i0 + 1;
-    table[i1] = x.height;
-    let i2 = i1 + 1;
-    table[i2] = 0;
-    let i3 = i2 + 1;
-    table[i3] = 0;
-    let i4 = i3 + 1;
-    table[i4] = x.a;
-    let i5 = i4 + 1;
-    table[i5] = x.b;
-    let i6 = i5 + 1;
-    table[i6] = x.c;
-    let i7 = i6 + 1;
-    table[i7] = x.p;
-    let i8 = i7 + 1;
-    table[i8] = x.q;
-    let i9 = i8 + 1;
-    table[i9] = x.r;
-    let i10 = i9 + 1;
-    table[i10] = x.s;
-    let i11 = i10 + 1;
-    table[i11] = 0;
 }
 
 // Cell j of node n, or 0 where there is none.
+#[tactic(auto, unfolding(crate::specs::Cells::cell_of))]
 pub fn cell(table: &[u32], n: usize, j: usize) -> usize
     ensures { (result ≡ cell_of table.now n j) × (result < 2 ^ 32) }
 {
-    if room(table) <= n {
-        return 0;
-    }
-    if CELLS <= j {
+    if room(table) <= n || CELLS <= j {
         return 0;
     }
     let i = n * CELLS + j;
@@ -84,6 +62,7 @@ pub fn kind(table: &[u32], n: usize) -> u32
 }
 
 // The height of what reference r names; 0 where it names nothing.
+#[tactic(auto, unfolding(crate::specs::Cells::height_at))]
 pub fn height(table: &[u32], r: usize) -> usize
     ensures { (result ≡ height_at table.now r) × (result < 2 ^ 32) }
 {

@@ -21,27 +21,11 @@ use Rattle.grammar.specs.declared.Refusal.{Refusal}
 use Rattle.grammar.specs.declared.Refusal.TheVariants.{Syntax}
 use Rattle.steps.specs.Does.{replied, stored_at, Finds, adding, Adds, Keeps}
 
--- whether one of the entries is equal, from entry i on
-any-from : (f : ℕ → Bool) (l : List ℕ) (i : ℕ) → i < length l → any_of f (drop i l) ≡ pick (f (get_or l i 0)) true (any_of f (drop (i + 1) l))
-any-from f l i h = rw (add-one i, drop-cons l i 0 h)
-
 either : (b : Bool) {c : Bool} → c ≡ true → pick b true c ≡ true
 either true e = refl
 either false e = e
 
-module _ (f : ℕ → Bool) (l : List ℕ) (i : ℕ) where
-  pub any_here : i < length l → f (get_or l i 0) ≡ true → any_of f (drop i l) ≡ true
-  any_here h e = any-from f l i h ∙ rw e
-
-  pub any-behind : i < length l → f (get_or l i 0) ≡ false → any_of f (drop i l) ≡ any_of f (drop (i + 1) l)
-  any-behind h e = any-from f l i h ∙ rw e
-
-  pub any-later : i < length l → any_of f (drop (i + 1) l) ≡ true → any_of f (drop i l) ≡ true
-  any-later h e = any-from f l i h ∙ either (f (get_or l i 0)) e
-
-  pub any_none : length l ≤ i → any_of f (drop i l) ≡ false
-  any_none h = rw (drop_of_length-le l h)
-
+-- one of the entries is equal
 pub any-more : (f g : ℕ → Bool) (l : List ℕ) → ((n : ℕ) → f n ≡ true → g n ≡ true) → any_of f l ≡ true → any_of g l ≡ true
 any-more f g [] h e = e
 any-more f g (n ∷ l) h e = by (f n) refl (any-more f g l h)

@@ -1,5 +1,6 @@
 // The memo: a stored name or type by its digit, and storing one more.
-ghost use Rattle.std.specs.Prelude.{◌≡◌, List, ℕ, ◌≤◌, eqb, get_or, take, drop};
+ghost use Rattle.std.specs.Prelude.{◌≡◌, ◌≤◌, take, drop, Err};
+ghost use Rattle.meaning.specs.declared.Unequal.TheVariants.{Spent};
 ghost use Rattle.meaning.specs.Tree.{tree_of};
 ghost use Rattle.meaning.specs.Links.{Links, Judged};
 ghost use Rattle.grammar.specs.Program as store;
@@ -12,7 +13,7 @@ ghost use Rattle.steps.specs.Does.{same_in, Finds, Adds, Keeps, stored_at};
 use crate::reader::Reader;
 use grammar::{ENTRIES, Entries, Memo, Refusal, State};
 use meaning::links::LINKS;
-use meaning::{SPENT, VISITS};
+use meaning::{Unequal, VISITS};
 use std::mem;
 
 // No entry is in use.
@@ -57,82 +58,62 @@ pub fn counted(t: &[u32], used: u16) -> &[u32]
     if n <= t.len() { &t[..n] } else { t }
 }
 
-// Is one of the entries the node n itself?
-fn listed(entries: &[u16], n: u16) -> bool
-    ensures { result ≡ any_of (eqb n) entries.now }
+// Does one of the entries mean the same as the node n? What one question links serves the next.
+fn sought_over(front: &[u32], s: &[u8], entries: &[u16], links: &mut [u16], n: u16) -> bool
+    requires { Links (tree_of front.now s.now) links.old }
+    ensures { result ≡ any_of (same_in front.now s.now n) entries.now }
 {
-    let mut i = 0;
-    while i < entries.len() {
-        if entries[i] == n {
+    for e in entries {
+        if meaning::same_linked(front, s, links, usize::from(n) + 1, usize::from(*e) + 1) {
             return true;
         }
-        i += 1;
     }
     false
-}
-
-// Does one of the entries from a place on mean the same as the node n? 2 says yes, 0 no. What one question links serves the next.
-fn sought_over(
-    front: &[u32],
-    s: &[u8],
-    entries: &[u16],
-    links: &mut [u16],
-    from: usize,
-    n: u16,
-) -> usize
-    requires { Links (tree_of front.now s.now) links.old }
-    ensures { Judged (any_of (same_in front.now s.now n) (drop from entries.now)) result × (result ≡ 1 → ⊥) }
-{
-    let mut i = from;
-    while i < entries.len() {
-        let e = (entries[i] as usize) + 1;
-        if meaning::same_linked(front, s, links, (n as usize) + 1, e) {
-            return 2;
-        }
-        i += 1;
-    }
-    0
 }
 
 // Most symbols count no more nodes, and have no more links cleared.
 const FEW: usize = 1024;
 
 // The same with no links yet.
-fn sought_linked(front: &[u32], s: &[u8], entries: &[u16], from: usize, n: u16) -> usize
-    ensures { Judged (any_of (same_in front.now s.now n) (drop from entries.now)) result × (result ≡ 1 → ⊥) }
+fn sought_linked(front: &[u32], s: &[u8], entries: &[u16], n: u16) -> bool
+    ensures { result ≡ any_of (same_in front.now s.now n) entries.now }
 {
     if node::room(front) <= FEW {
         let mut links = [0u16; FEW];
-        return sought_over(front, s, entries, &mut links, from, n);
+        return sought_over(front, s, entries, &mut links, n);
     }
     let mut links = [0u16; LINKS];
-    sought_over(front, s, entries, &mut links, from, n)
+    sought_over(front, s, entries, &mut links, n)
 }
 
-// The same within a budget for each entry, and 1 if it is spent for one. Others come first then: one may be told at once.
+// The same of the entries from a place on, within a budget for each. Where it is spent for one, others come first: one may be told at once.
 // The outermost call answers with links. A caller would get their array into its frame; this calls itself, and does not.
-fn sought(front: &[u32], s: &[u8], entries: &[u16], from: usize, n: u16) -> usize
-    ensures { Judged (any_of (same_in front.now s.now n) (drop from entries.now)) result × (from ≡ 0 → result ≡ 1 → ⊥) }
+fn sought(front: &[u32], s: &[u8], entries: &[u16], from: usize, n: u16) -> Result<(), Unequal>
+    ensures { Judged (any_of (same_in front.now s.now n) (drop from entries.now)) result × (from ≡ 0 → result ≡ Err Spent → ⊥) }
 {
-    let mut i = from;
-    while i < entries.len() {
-        let e = (entries[i] as usize) + 1;
-        let v = meaning::judge(front, s, (n as usize) + 1, e, VISITS);
-        if v == SPENT {
-            if sought(front, s, entries, i + 1, n) == 2 {
-                return 2;
+    for i in from..entries.len() {
+        match meaning::judge(
+            front,
+            s,
+            usize::from(n) + 1,
+            usize::from(entries[i]) + 1,
+            VISITS,
+        ) {
+            Ok(_) => return Ok(()),
+            Err(Unequal::Differ) => {}
+            Err(Unequal::Spent) => {
+                if sought(front, s, entries, i + 1, n).is_ok() {
+                    return Ok(());
+                }
+                if 0 < from {
+                    return Err(Unequal::Spent);
+                }
+                let held = sought_linked(front, s, &entries[i..], n);
+                return if held { Ok(()) } else { Err(Unequal::Differ) };
             }
-            if from == 0 {
-                return sought_linked(front, s, entries, i, n);
-            }
-            return SPENT;
         }
-        if v != 0 {
-            return 2;
-        }
-        i += 1;
     }
-    0
+    Err(Unequal::Differ)
 }
 
 // Does one of the first entries mean the same as the node n? It may be that node.
@@ -140,12 +121,11 @@ fn holds(front: &[u32], s: &[u8], entries: Entries, len: u8, n: u16) -> bool
     requires { len ≤ 10 }
     ensures { result ≡ any_of (same_in front.now s.now n) (take len entries) }
 {
-    let i = len as usize;
-    let first = &entries[..i];
-    if listed(first, n) {
+    let first = &entries[..usize::from(len)];
+    if first.contains(&n) {
         return true;
     }
-    sought(front, s, first, 0, n) != 0
+    sought(front, s, first, 0, n).is_ok()
 }
 
 // Stores the node n in one half of the memo, unless that is full or holds an equal one.

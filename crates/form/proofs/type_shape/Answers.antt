@@ -15,58 +15,6 @@ unknown c = elim c.in_default.branch [
   | in_default-via-else-kind-lt18+else-kind-lt23+else-kind-lt31+else-kind-lt38+else-kind-lt60+else-kind-lt63 w ↦ past _ w.if-kind-lt63-1.false c.in_default-1.rest.1
 ]
 
-pub returns-in-18 : goal.returns-in-18
-unfolding whole_shape shape_of
-returns-in-18 c = rw c.in-18.is c.row.ensures
-
-pub returns-in-19 : goal.returns-in-19
-unfolding whole_shape shape_of
-returns-in-19 c = rw c.in-19.is c.row-in-19.ensures
-
-pub returns-in-20 : goal.returns-in-20
-unfolding whole_shape shape_of
-returns-in-20 c = rw c.in-20.is c.row-in-20.ensures
-
-pub returns-in-23 : goal.returns-in-23
-unfolding whole_shape shape_of
-returns-in-23 c = rw c.in-23.is c.row-in-23.ensures
-
-pub returns-in-24 : goal.returns-in-24
-unfolding whole_shape shape_of
-returns-in-24 c = rw c.in-24.is c.row-in-24.ensures
-
-pub returns-in-25 : goal.returns-in-25
-unfolding whole_shape shape_of
-returns-in-25 c = rw c.in-25.is c.row-in-25.ensures
-
-pub returns-in-26 : goal.returns-in-26
-unfolding whole_shape shape_of
-returns-in-26 c = rw c.in-26.is c.row-in-26.ensures
-
-pub returns-in-27 : goal.returns-in-27
-unfolding whole_shape shape_of
-returns-in-27 c = rw c.in-27.is c.row-in-27.ensures
-
-pub returns-in-31 : goal.returns-in-31
-unfolding whole_shape shape_of
-returns-in-31 c = rw c.in-31.is c.row-in-31.ensures
-
-pub returns-in-32 : goal.returns-in-32
-unfolding whole_shape shape_of
-returns-in-32 c = rw c.in-32.is c.row-in-32.ensures
-
-pub returns-in-60 : goal.returns-in-60
-unfolding whole_shape shape_of
-returns-in-60 c = rw c.in-60.is c.row-in-60.ensures
-
-pub returns-in-63 : goal.returns-in-63
-unfolding whole_shape shape_of
-returns-in-63 c = rw c.in-63.is c.row-in-63.ensures
-
-pub returns-in-21-to-22 : goal.returns-in-21-to-22
-unfolding whole_shape shape_of
-returns-in-21-to-22 c = c.row-in-21-to-22.ensures ∙ off-keys (63 ∷ 60 ∷ 32 ∷ 31 ∷ 27 ∷ 26 ∷ 25 ∷ 24 ∷ 23 ∷ 20 ∷ 19 ∷ 18 ∷ []) 18 5 (λ k. whole_shape 21) whole_shape refl c.args.kind c.in-21-to-22.if-kind-lt18-own.false c.in-21-to-22.if-kind-lt23-own.true c.in-21-to-22.in_default-own.rest
-
 pub returns-in-28-to-30 : goal.returns-in-28-to-30
 unfolding whole_shape shape_of
 returns-in-28-to-30 c = c.row-in-28-to-30.ensures ∙ off-keys (63 ∷ 60 ∷ 32 ∷ 31 ∷ 27 ∷ 26 ∷ 25 ∷ 24 ∷ 23 ∷ 20 ∷ 19 ∷ 18 ∷ []) 23 8 (λ k. whole_shape 28) whole_shape refl c.args.kind c.in-28-to-30.if-kind-lt23-own.false c.in-28-to-30.if-kind-lt31-own.true c.in-28-to-30.in_default-own.rest

@@ -1,38 +1,18 @@
 -- Assumes nothing.
-use mathlib.Core.Path.{sym, refl, ◌∙◌}
-use native.Mathlib.Omega.{arith}
-use Rattle.meaning.proofs.Union.{way-here, way_next, way-past}
+use mathlib.Core.Path.{sym, ◌∙◌}
+use Rattle.meaning.proofs.Union.{is-some, is-none, way_next, way-past}
 use Rattle.meaning.proofs.links.find.Goals as goal
 
-pub next-y-requires : goal.next-y-requires
-next-y-requires c = c.requires
-
-pub loop-y-init : goal.loop-y-init
-loop-y-init c = (way-here _ _, c.requires, c.next-y.ensures, refl)
-
-pub next-z-requires : goal.next-z-requires
-next-z-requires c = c.loop-y.invariant.1
-
-pub shape_of-links-then-z-eq0 : goal.shape_of-links-then-z-eq0
-shape_of-links-then-z-eq0 c = c.loop-y.invariant.3
-
-pub returns-then-z-eq0 : goal.returns-then-z-eq0
-returns-then-z-eq0 c = record { way = way_next _ c.loop-y.invariant.1 c.loop-y.invariant.0 c.loop-y.invariant.2 (omega arith); ends = sym c.next-z.ensures ∙ c.if-z-eq0.true }
-
-pub point-requires : goal.point-requires
-point-requires c = (omega (arith, (c.loop-y.invariant.1 c.loop-y.p).1, (c.loop-y.invariant.1 c.loop-y.y).1, c.loop-y.invariant.2, c.next-z.ensures, c.if-z-eq0.false))
-
-pub next-y-requires-in-loop-y : goal.next-y-requires-in-loop-y
-next-y-requires-in-loop-y c = c.point.ensures.falls c.loop-y.invariant.1
-
-pub loop-y-smaller : goal.loop-y-smaller
-loop-y-smaller c = (omega (arith, (c.loop-y.invariant.1 c.loop-y.p).1, (c.loop-y.invariant.1 c.loop-y.y).1, c.loop-y.invariant.2, c.next-z.ensures, c.if-z-eq0.false))
+pub returns-in_default-next : goal.returns-in_default-next
+returns-in_default-next c =
+    let y = is-some c.in-Some.ensures in
+    record {
+      way = way_next _ c.loop-y.invariant.1 c.loop-y.invariant.0 y.0 y.1;
+      ends = is-none (sym c.in_default-next.is ∙ c.next-in-Some.ensures);
+    }
 
 pub loop-y-preserved : goal.loop-y-preserved
-loop-y-preserved c = (way-past _ c.loop-y.invariant.1 c.loop-y.invariant.0 c.loop-y.invariant.2 (omega arith) c.next-z.ensures (omega (arith, c.if-z-eq0.false)) c.point.ensures, c.point.ensures.falls c.loop-y.invariant.1, c.next-y-in-loop-y.ensures, c.point.auto.links ∙ c.loop-y.invariant.3)
-
-pub shape_of-links : goal.shape_of-links
-shape_of-links c = c.loop-y.invariant.3
-
-pub returns : goal.returns
-returns c = record { way = c.loop-y.invariant.0; ends = sym c.loop-y.invariant.2 ∙ omega arith }
+loop-y-preserved c =
+    let y = is-some c.in-Some.ensures in
+    let z = is-some c.in-Some-next.ensures in
+    (way-past _ c.loop-y.invariant.1 c.loop-y.invariant.0 y.0 y.1 z.0 z.1 c.point.ensures, c.point.ensures.falls c.loop-y.invariant.1)

@@ -1,10 +1,8 @@
-use mathlib.Core.Path.{◌≡◌}
-use lib.ListN.{length}
-use Rattle.meaning.specs.Links.{link_of, Falls, Way}
+use Rattle.meaning.specs.Links.{Falls, Way}
 use Rattle.meaning.proofs.links.find.Given as goal
 
 abbrev pub invariant-loop-y : goal.invariant-loop-y
-invariant-loop-y l = Way l.initial.links l.links l.r l.p × Falls l.links × (l.y ≡ link_of l.links l.p) × (length l.links ≡ length l.initial.links)
+invariant-loop-y l = Way l.initial.links l.links l.r l.p × Falls l.links
 
 abbrev pub decreases-loop-y : goal.decreases-loop-y
 decreases-loop-y l = l.p

@@ -1,12 +1,6 @@
 -- Assumes nothing.
-use Rattle.meaning.proofs.Union.{parts_none, parts-set}
+use Rattle.meaning.proofs.Union.{parts-set}
 use Rattle.meaning.proofs.links.note.Goals as goal
-
-pub returns-then-links-y : goal.returns-then-links-y
-returns-then-links-y c = parts_none _ _ _
 
 pub returns-then-x-lt-NOTES : goal.returns-then-x-lt-NOTES
 returns-then-x-lt-NOTES c = parts-set _ _ _ c.if-x-lt-NOTES.true c.requires
-
-pub returns-else-x-lt-NOTES : goal.returns-else-x-lt-NOTES
-returns-else-x-lt-NOTES c = parts_none _ _ _

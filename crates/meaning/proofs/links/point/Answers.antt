@@ -1,12 +1,6 @@
 -- Assumes nothing.
-use Rattle.meaning.proofs.Union.{joins-none, joins_set}
+use Rattle.meaning.proofs.Union.{joins_set}
 use Rattle.meaning.proofs.links.point.Goals as goal
-
-pub returns-then-links-x : goal.returns-then-links-x
-returns-then-links-x c = joins-none _ _ _
 
 pub returns-then-y-lt-NOTES : goal.returns-then-y-lt-NOTES
 returns-then-y-lt-NOTES c = joins_set _ _ _ c.requires c.if-y-lt-NOTES.true
-
-pub returns-else-y-lt-NOTES : goal.returns-else-y-lt-NOTES
-returns-else-y-lt-NOTES c = joins-none _ _ _

@@ -1,16 +1,12 @@
-use Prim.Native.Nat.{◌+◌, ◌≤◌, ◌-◌}
+use Prim.Native.Nat.{◌-◌}
 use mathlib.Core.Path.{◌≡◌}
 use lib.ListN.{length, drop}
-use Rattle.meaning.specs.Tree.{tree_of, eq_tree}
 use Rattle.grammar.specs.Program.{any_of}
-use Prim.Native.Nat.{◌+◌, ◌-◌}
+use Rattle.steps.specs.Does.{same_in}
 use Rattle.steps.proofs.memo.+sought.Given as goal
 
 abbrev pub decreases-sought : goal.decreases-sought
 decreases-sought l = length l.entries.now - l.from
 
 abbrev pub invariant-loop-i : goal.invariant-loop-i
-invariant-loop-i l = (l.from ≤ l.i) × (any_of (λ e. eq_tree (tree_of l.front l.s (l.n + 1)) (tree_of l.front l.s (e + 1))) (drop l.from l.entries) ≡ any_of (λ e. eq_tree (tree_of l.front l.s (l.n + 1)) (tree_of l.front l.s (e + 1))) (drop l.i l.entries))
-
-abbrev pub decreases-loop-i : goal.decreases-loop-i
-decreases-loop-i l = length l.entries - l.i
+invariant-loop-i l = any_of (same_in l.front l.s l.n) (drop l.from l.entries) ≡ any_of (same_in l.front l.s l.n) (drop l.i l.entries)
