@@ -1,10 +1,11 @@
 // The literals of the text, by number.
 ghost use Rattle.std.specs.Prelude.{◌≡◌};
-ghost use Rattle.text.specs.Emit.{Wrote, lit};
+ghost use Rattle.text.specs.Emit.{lit};
+ghost use Rattle.text.specs.Buffer.{Writes};
 ghost use Rattle.text.specs.Words.{word};
 ghost use Rattle.text.specs.Letters.{spell, piece};
 
-use crate::buffer::put;
+use crate::buffer::Buffer;
 
 // Operators have their own numbers, 0 to 74.
 pub const GUARD: usize = 47;
@@ -437,39 +438,34 @@ fn fifth(w: usize) -> u64
     }
 }
 
-// The letters that c spells, eight at most.
-fn put_letters(text: &mut [u8], o: usize, c: u64) -> usize
-    ensures { Wrote (lit (spell 8 c)) text.old o text.new result }
-{
-    let mut at = o;
-    let mut rest = c;
-    let mut left = 8usize;
-    while 0 < left {
-        if rest == 0 {
-            break;
+impl Buffer<'_> {
+    // The letters that c spells, eight at most.
+    fn put_letters(&mut self, c: u64)
+        ensures { Writes (lit (spell 8 c)) self.old self.new }
+    {
+        let mut rest = c;
+        while rest != 0 {
+            self.put((rest % 256) as u8);
+            rest /= 256;
         }
-        at = put(text, at, (rest % 256) as u8);
-        rest /= 256;
-        left -= 1;
     }
-    at
-}
 
-// Word w; nothing where there is no such word.
-pub fn put_word(text: &mut [u8], o: usize, w: usize) -> usize
-    ensures { Wrote (lit (word w)) text.old o text.new result }
-{
-    let o1 = put_letters(text, o, first(w));
-    let b = second(w);
-    if b == 0 {
-        return o1;
+    // Word w; nothing where there is no such word.
+    pub fn put_word(&mut self, w: usize)
+        ensures { Writes (lit (word w)) self.old self.new }
+    {
+        self.put_letters(first(w));
+        let b = second(w);
+        if b == 0 {
+            return;
+        }
+        self.put_letters(b);
+        let c = third(w);
+        if c == 0 {
+            return;
+        }
+        self.put_letters(c);
+        self.put_letters(fourth(w));
+        self.put_letters(fifth(w));
     }
-    let o2 = put_letters(text, o1, b);
-    let c = third(w);
-    if c == 0 {
-        return o2;
-    }
-    let o3 = put_letters(text, o2, c);
-    let o4 = put_letters(text, o3, fourth(w));
-    put_letters(text, o4, fifth(w))
 }
