@@ -5,11 +5,11 @@
 --     wrote-same, wrote-is       the same text by another name
 --     writes-..                  the same of a writer's text
 --     seq-assoc, seq-none, none-seq
-use Rattle.std.proofs.Common.{IsTrue, ◌↔◌, true, false, ◌≡◌, ℕ, ◌+◌, ◌<◌, ◌≤◌, List, [], ◌∷◌, ◌++◌, length, take, drop, sym, refl, ap, ◌∙◌, ap₂, append_assoc, append-nil, add-zero, le_of_lt, arith, length-append, take-append-drop, length-take-le, take_all, le-ltb, lt-ltb, le-leb}
+use Rattle.std.proofs.Common.{IsTrue, ◌↔◌, Bool, true, false, ◌≡◌, ℕ, ◌+◌, ◌<◌, ◌≤◌, List, [], ◌∷◌, ◌++◌, length, take, drop, sym, refl, ap, ◌∙◌, ap₂, append_assoc, append-nil, add-zero, le_of_lt, arith, length-append, take-append-drop, length-take-le, take_all, le-ltb, lt-ltb, le-leb}
 use mathlib.Core.Path.{fun_ext}
 use native.Mathlib.Decide.{dec_le, dec_lt}
 use borrow.Author.Tests.{lt-leb}
-use Rattle.text.specs.Emit.{Text, last_of, none, ◌⨾◌, cut, last_at, place_after, Wrote}
+use Rattle.text.specs.Emit.{Text, last_of, none, when, ◌⨾◌, cut, last_at, place_after, Wrote}
 use Rattle.text.proofs.Cut.{length_cut, take-cut, cut-more, cut-self, cut_fits, cut-cut}
 
 pub last_of-append : (l : ℕ) (s t : List ℕ) → last_of l (s ++ t) ≡ last_of (last_of l s) t
@@ -162,6 +162,9 @@ module _ {G : Type 0} {b : List ℕ} {o : ℕ} {g : G} where
   writes-past {T} e = (wrote-past T e, refl)
 
   module _ {b₁ : List ℕ} {o₁ : ℕ} {g₁ : G} where
+    pub writes-when : {t t' : Bool} (T : Text) → t ≡ t' → Wrote (when t T) b o b₁ o₁ × (g₁ ≡ g) → Wrote (when t' T) b o b₁ o₁ × (g₁ ≡ g)
+    writes-when T e v = rw (sym e) v
+
     pub writes-same : {T T' : Text} → T (last_at b o) ≡ T' (last_at b o) → Wrote T b o b₁ o₁ × (g₁ ≡ g) → Wrote T' b o b₁ o₁ × (g₁ ≡ g)
     writes-same e v = (wrote-same e v.0, v.1)
 
