@@ -1,12 +1,12 @@
 use Prim.Native.Nat.{ℕ, ◌≤◌}
 use mathlib.Core.Path.{◌≡◌}
-use Rattle.meaning.specs.Tree.{tree_of}
+use Rattle.writer.specs.Source.{tree_at}
 use Rattle.text.specs.Emit.{Wrote}
 use Rattle.serializer.specs.Serializer.{write_scope}
 use mathlib.Core.List.{List}
 use lib.ListN.{length}
 use Prim.Native.Nat.{◌+◌, ◌*◌}
-use Rattle.writer.proofs.+writers.Given as goal
+use Rattle.writer.proofs.Source.+writers.Given as goal
 
 abbrev pub decreases-back : goal.decreases-back
 decreases-back l = 8 * (l.r * l.r) + 1
@@ -78,7 +78,7 @@ abbrev pub decreases-vftable : goal.decreases-vftable
 decreases-vftable l = 8 * (l.r * l.r) + 1
 
 abbrev pub invariant-scope-loop-p : goal.invariant-scope-loop-p
-invariant-scope-loop-p l = (length l.text ≡ length l.initial.text) × (l.p ≤ l.r) × ((b' : List ℕ) (o' : ℕ) → Wrote (write_scope l.flags (tree_of l.table l.symbol l.p)) l.text l.at b' o' → Wrote (write_scope l.flags (tree_of l.table l.symbol l.r)) l.initial.text l.o b' o')
+invariant-scope-loop-p l = (l.p ≤ l.r) × (l.text.bytes.ghost_name ≡ l.initial.text.bytes.ghost_name) × ((b' : List ℕ) (o' : ℕ) → Wrote (write_scope l.self.flags (tree_at l.self l.p)) l.text.bytes.now l.text.at b' o' → Wrote (write_scope l.self.flags (tree_at l.self l.r)) l.initial.text.bytes.now l.initial.text.at b' o')
 
 abbrev pub decreases-scope-loop-p : goal.decreases-scope-loop-p
 decreases-scope-loop-p l = l.p
