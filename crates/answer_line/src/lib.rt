@@ -3,14 +3,14 @@
 
 ghost use Rattle.std.specs.Prelude.{◌≡◌, ◌≤◌, length};
 ghost use Rattle.text.specs.Emit.{Wrote, lit};
+ghost use Rattle.text.specs.Buffer.{Writes};
 ghost use Rattle.farthingmoss.specs.declared.Counts.{Counts};
 ghost use Rattle.farthingmoss.specs.declared.Answer.TheVariants.{Answered};
-ghost use Rattle.answer_line.specs.Line.{decimal, ok_line, no_line, answer_line, line_of, line_cells, line_text};
+ghost use Rattle.answer_line.specs.Line.{ok_line, no_line, answer_line, line_of, line_cells, line_text};
 
 use farthingmoss::{Answer, demangle};
 use scan::limits::DEEPEST_READING;
-use text::buffer::{put, put_bytes};
-use text::decimal::fill_back;
+use text::buffer::Buffer;
 
 const FLAGS: u32 = 0;
 
@@ -23,49 +23,41 @@ pub const TEXT: usize = 4_096;
 
 pub const LONGEST_ANSWER: usize = TEXT + 4;
 
-fn put_number(out: &mut [u8], o: usize, n: usize) -> usize
-    ensures { Wrote (lit (decimal n)) out.old o out.new result }
+fn put_text(out: &mut Buffer, text: &[u8])
+    ensures { Writes (lit (ok_line text.now)) out.old out.new }
 {
-    let mut buf = [0u8; 20];
-    let i = fill_back(&mut buf, n);
-    put_bytes(out, o, &buf[i..])
+    out.put_bytes(b"ok\t");
+    out.put_bytes(text);
+    out.put(b'\n');
 }
 
-fn put_text(out: &mut [u8], o: usize, text: &[u8]) -> usize
-    ensures { Wrote (lit (ok_line text.now)) out.old o out.new result }
+fn put_refusal(out: &mut Buffer, number: usize, offset: usize)
+    ensures { Writes (lit (no_line number offset)) out.old out.new }
 {
-    let o1 = put_bytes(out, o, b"ok\t");
-    let o2 = put_bytes(out, o1, text);
-    put(out, o2, b'\n')
+    out.put_bytes(b"no\t");
+    out.put_usize(number);
+    out.put(b'\t');
+    out.put_usize(offset);
+    out.put(b'\n');
 }
 
-fn put_refusal(out: &mut [u8], o: usize, number: usize, offset: usize) -> usize
-    ensures { Wrote (lit (no_line number offset)) out.old o out.new result }
-{
-    let o1 = put_bytes(out, o, b"no\t");
-    let o2 = put_number(out, o1, number);
-    let o3 = put(out, o2, b'\t');
-    let o4 = put_number(out, o3, offset);
-    put(out, o4, b'\n')
-}
-
-fn put_answer(out: &mut [u8], o: usize, a: Answer, text: &[u8]) -> usize
+fn put_answer(out: &mut Buffer, a: Answer, text: &[u8])
     requires { (c : Counts) → a ≡ Answered c → c.text ≤ length text.now }
-    ensures { Wrote (lit (answer_line a text.now)) out.old o out.new result }
+    ensures { Writes (lit (answer_line a text.now)) out.old out.new }
 {
     match a {
         Answer::Answered(c) => {
             let n = c.text;
-            put_text(out, o, &text[..n])
+            put_text(out, &text[..n]);
         }
-        Answer::NoSymbol => put_refusal(out, o, 1, 0),
-        Answer::NotAscii(at) => put_refusal(out, o, 2, at),
-        Answer::NoDerivation(at) => put_refusal(out, o, 3, at),
-        Answer::TooDeep(at) => put_refusal(out, o, 4, at),
-        Answer::NoNode(at) => put_refusal(out, o, 5, at),
-        Answer::NoRoom(c) => put_refusal(out, o, 6, c.offset),
-        Answer::BadCall => put_refusal(out, o, 7, 0),
-        Answer::BadTable => put_refusal(out, o, 8, 0),
+        Answer::NoSymbol => put_refusal(out, 1, 0),
+        Answer::NotAscii(at) => put_refusal(out, 2, at),
+        Answer::NoDerivation(at) => put_refusal(out, 3, at),
+        Answer::TooDeep(at) => put_refusal(out, 4, at),
+        Answer::NoNode(at) => put_refusal(out, 5, at),
+        Answer::NoRoom(c) => put_refusal(out, 6, c.offset),
+        Answer::BadCall => put_refusal(out, 7, 0),
+        Answer::BadTable => put_refusal(out, 8, 0),
     }
 }
 
@@ -82,5 +74,7 @@ pub fn answer_line(
     ensures { Wrote (lit (line_of line.now)) out.old o out.new result }
 {
     let a = demangle(line, FLAGS, DEPTH, table, text);
-    put_answer(out, o, a, text)
+    let mut to = Buffer { bytes: out, at: o };
+    put_answer(&mut to, a, text);
+    to.at
 }

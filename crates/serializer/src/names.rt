@@ -46,7 +46,7 @@ pub fn put_plain_name(symbol: &[u8], text: &mut Buffer, k: u32, m: u32, n: u32)
     }
 }
 
-// A guard's index, given with one added; 0 is none.
+// A guard's index, given with one added and 0 for none, as the table keeps it.
 pub fn put_guard(text: &mut Buffer, g: u32)
     ensures { Writes (write_guard g) text.old text.new }
 {

@@ -1,10 +1,10 @@
 -- What the leaves of the writer store is what `Wrote` says. Assumes nothing.
-use Rattle.std.proofs.Common.{◌≡◌, ℕ, suc, ◌+◌, ◌-◌, ◌<◌, ◌≤◌, List, [], ◌∷◌, ◌++◌, length, get_or, take, drop, set, sym, refl, ap, ◌∙◌, ap₂, append_assoc, append-nil, le_refl, add-one, arith, length-append, length-drop, drop_of_length-le, length-take-le, take_all, drop-cons, get_or-take, take-suc, drop-drop}
+use Rattle.std.proofs.Common.{◌≡◌, ℕ, suc, ◌+◌, ◌-◌, ◌<◌, ◌≤◌, List, [], ◌∷◌, ◌++◌, length, get_or, take, drop, set, sym, refl, ap, ◌∙◌, ap₂, append_assoc, append-nil, le_refl, add-one, arith, length-append, length-drop, drop_of_length-le, length-take-le, take_all, get_or-take, drop-drop}
 use native.Mathlib.Decide.{dec_le}
 use Rattle.std.specs.Prelude.{min}
 use Rattle.std.proofs.Math.Nat.{min-eq_left, min-eq_right}
 use borrow.Rule.Slice.PartMut.{put_mid}
-use lib.Seq.{set_split, set_at, take-append-add, append_snoc}
+use lib.Seq.{set_split, take-append-add, append_snoc}
 use Rattle.text.specs.Emit.{last_of, lit, cut, last_at, place_after, Wrote}
 use Rattle.text.proofs.Cut.{length_cut, cut-self, cut_fits}
 use Rattle.text.proofs.Seq.{place-fits, place-over}

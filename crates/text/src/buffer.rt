@@ -37,7 +37,11 @@ impl Buffer<'_> {
         if room < self.at {
             return self.at;
         }
-        if n <= room - self.at { self.at + n } else { room + 1 }
+        if n <= room - self.at {
+            self.at + n
+        } else {
+            room + 1
+        }
     }
 
     // The bytes of s.
@@ -69,6 +73,10 @@ impl Buffer<'_> {
         ensures { result ≡ last_at self.now.bytes.now self.now.at }
     {
         let end = self.at.min(self.bytes.len());
-        if end == 0 { NO_BYTE } else { self.bytes[end - 1] as u32 }
+        if end == 0 {
+            NO_BYTE
+        } else {
+            self.bytes[end - 1] as u32
+        }
     }
 }

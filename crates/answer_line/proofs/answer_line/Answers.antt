@@ -12,4 +12,4 @@ pub put_answer-requires : goal.put_answer-requires
 put_answer-requires c = λ k q. omega (arith, text-fits 0 deepest_reading c.args.line.now c.args.table.now _ k (sym c.demangle-a.ensures.value ∙ q))
 
 pub returns : goal.returns
-returns c = wrote-is (ap lit (sym (ap₂ answer_line c.demangle-a.ensures.value c.demangle-a.ensures.text_after ∙ same_line c.args.line.now c.args.table.now c.args.text.now (table-nodes c.args.table.now c.requires.table_len) c.requires.text_len))) c.put_answer.ensures
+returns c = wrote-is (ap lit (sym (ap₂ answer_line c.demangle-a.ensures.value c.demangle-a.ensures.text_after ∙ same_line c.args.line.now c.args.table.now c.args.text.now (table-nodes c.args.table.now c.requires.table_len) c.requires.text_len))) c.put_answer.ensures.0

@@ -1,5 +1,5 @@
 -- Assumes nothing.
-use Rattle.std.proofs.Common.{ne_eqb, eq-eqb, ◌∙◌}
+use Rattle.std.proofs.Common.{ne_eqb}
 use Rattle.text.specs.Spaces.{after_ptr, after_pre}
 use Rattle.text.proofs.spaces.is_after_pre.Goals as goal
 

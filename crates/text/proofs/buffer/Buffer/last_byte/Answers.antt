@@ -1,5 +1,5 @@
 -- Assumes nothing.
-use Rattle.std.proofs.Common.{◌-◌, sym, ap, ◌∙◌, arith}
+use Rattle.std.proofs.Common.{sym, ap, ◌∙◌}
 use Rattle.text.specs.Emit.{last_at, last_of}
 use Rattle.text.proofs.Stores.{ends-min, last-is}
 use Rattle.text.proofs.buffer.Buffer.last_byte.Goals as goal

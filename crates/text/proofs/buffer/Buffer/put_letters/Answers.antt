@@ -1,5 +1,5 @@
 -- Assumes nothing.
-use Rattle.std.proofs.Common.{refl, sym, ◌∙◌, arith}
+use Rattle.std.proofs.Common.{refl, ◌∙◌, arith}
 use Rattle.text.proofs.Letters.{spelled_none, spelled-more}
 use Rattle.text.proofs.buffer.Buffer.put_letters.Goals as goal
 
