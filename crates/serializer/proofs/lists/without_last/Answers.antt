@@ -14,8 +14,7 @@ returns-then-q-eq0 c =
 pub loop-preserved : goal.loop-preserved
 loop-preserved c =
     let left : 0 < c.args.h - c.loop.counter = omega (arith, c.loop-test.true) in
-    let next : c.args.h - c.loop.counter - 1 ≡ c.args.h - (c.loop.counter + 1) = omega arith in
-    (
+    let next : c.args.h - c.loop.counter - 1 ≡ c.args.h - (c.loop.counter + 1) = omega arith in (
       omega (arith, c.loop.invariant.0, c.skip_packs-q.ensures.1, c.kid-p.ensures.1),
       λ s. c.loop.invariant.1 s ∙ (without-skip _ (c.skip_packs-q.ensures.0 s) (c.args.h - c.loop.counter) left) ∙ without-one _ s (omega arith) (c.skip_packs-q.ensures.2 (omega arith) s) c.kid-p.ensures.0 (c.args.h - c.loop.counter) left ∙ ap (without_last _) next,
     )

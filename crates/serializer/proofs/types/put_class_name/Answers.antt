@@ -1,5 +1,5 @@
 -- Assumes nothing.
-use Rattle.std.proofs.Common.{eq-eqb, ne_eqb, sym, ◌∙◌, arith}
+use Rattle.std.proofs.Common.{sym, ◌∙◌, arith}
 use Rattle.text.proofs.Seq.{writes-none, writes-is}
 use Rattle.serializer.specs.Pieces.{class_name}
 use Rattle.serializer.proofs.Spelled.{class-is, no-class-below, no-class-above}

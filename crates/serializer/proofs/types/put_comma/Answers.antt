@@ -1,5 +1,5 @@
 -- Assumes nothing.
-use Rattle.std.proofs.Common.{eq-eqb, ne_eqb, sym, ◌∙◌}
+use Rattle.std.proofs.Common.{sym, ◌∙◌}
 use Rattle.text.proofs.Seq.{writes-seq, writes-none}
 use Rattle.serializer.specs.Serializer.{comma}
 use Rattle.serializer.proofs.types.put_comma.Goals as goal

@@ -1,7 +1,6 @@
 -- Assumes nothing.
-use Rattle.std.proofs.Common.{sym, ◌∙◌}
 use Rattle.text.specs.Words.{word}
-use Rattle.text.proofs.Seq.{writes-seq, writes-none, writes-when}
+use Rattle.text.proofs.Seq.{writes-seq, writes-when}
 use Rattle.serializer.specs.Serializer.{write_func_class}
 use Rattle.serializer.proofs.types.put_func_class.Goals as goal
 

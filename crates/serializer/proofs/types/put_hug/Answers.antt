@@ -1,5 +1,5 @@
 -- Assumes nothing.
-use Rattle.std.proofs.Common.{sym, ◌∙◌, not}
+use Rattle.std.proofs.Common.{sym, ◌∙◌}
 use Rattle.text.specs.Spaces.{write_space, write_space_ptr, asks_by}
 use Rattle.text.proofs.Seq.{writes-none}
 use Rattle.serializer.specs.Serializer.{write_hug}

@@ -1,5 +1,5 @@
 -- Assumes nothing.
-use Rattle.std.proofs.Common.{sym, ◌∙◌, refl}
+use Rattle.std.proofs.Common.{sym, ◌∙◌}
 use Rattle.text.specs.Spaces.{write_space, write_space_ptr, asks_by}
 use Rattle.serializer.specs.Serializer.{write_qualifier_space}
 use Rattle.serializer.proofs.types.qualifier_space.Goals as goal

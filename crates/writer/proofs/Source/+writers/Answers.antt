@@ -17,7 +17,6 @@ use borrow.Author.Rules.{rules}
 use Rattle.serializer.proofs.Walks.{kind-low, guard-not}
 use Rattle.writer.proofs.ByName.{cast_is, cast-other, cast-member, first-is, entry-none, entry-is, empty-is, name-none, name-is, one_none, one_plain, own-none, own-operator, own-parsed, own-anonymous, own-rest, operator-rest, tmpl-none, tmpl-some, ones_none, or-false, scope-none, scope-is}
 use Rattle.serializer.specs.Lists.{entry_after, last_ones, last_entry}
-use borrow.Author.Tests.{eq-eqb, ne_eqb}
 use Rattle.text.specs.Spaces.{asks_by, write_space, or}
 use Rattle.serializer.specs.Pieces.{guard_of, cast_of}
 use Rattle.serializer.proofs.Chain.{ones_halves, ones-one, ones-zero, types-count}

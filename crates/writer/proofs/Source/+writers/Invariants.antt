@@ -4,7 +4,6 @@ use Rattle.writer.specs.Source.{tree_at}
 use Rattle.text.specs.Emit.{Wrote}
 use Rattle.serializer.specs.Serializer.{write_scope}
 use mathlib.Core.List.{List}
-use lib.ListN.{length}
 use Prim.Native.Nat.{◌+◌, ◌*◌}
 use Rattle.writer.proofs.Source.+writers.Given as goal
 
