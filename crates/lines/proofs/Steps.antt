@@ -12,7 +12,8 @@ use lib.Seq.{length-take-le, drop-drop, get_or-append-add, get_or-drop, take_at,
 use Rattle.text.specs.Emit.{Wrote, lit}
 use Rattle.text.proofs.Cut.{length_cut, take-cut}
 use Rattle.text.proofs.Seq.{place-fits}
-use Rattle.text.proofs.Stores.{over, over-more}
+use Rattle.std.proofs.Common.{add-one, drop-cons, take-suc}
+use lib.Seq.{set_at, append_snoc}
 use Rattle.answer_line.specs.Line.{line_of}
 use Rattle.answer_line.proofs.Answers.{line-short}
 use Rattle.lines.specs.Output.{newline_at, Open, output}
@@ -77,6 +78,16 @@ module _ (s : List ℕ) {b b' : List ℕ} {o o' : ℕ} (v : Wrote (lit (line_of 
 
 pub none_owes : (s l : List ℕ) → length s ≡ 0 → l ≡ l ++ output s
 none_owes s l n = sym (ap (λ x. l ++ x) (no_line s n) ∙ append-nil l)
+
+-- the first i bytes of s over those of t
+abbrev pub over : List ℕ → List ℕ → ℕ → List ℕ
+over t s i = take i s ++ drop i t
+
+over-more : (t s : List ℕ) (i : ℕ) → i < length t → i < length s → set (over t s i) i (get_or s i 0) ≡ over t s (i + 1)
+over-more t s i h k =
+    let e : length (take i s) ≡ i = length-take-le i s (omega arith) in
+    ap (λ l. set (take i s ++ l) i (get_or s i 0)) (drop-cons t i 0 h) ∙ set_at (take i s) (get_or t i 0) (drop (suc i) t) (get_or s i 0) i e
+    ∙ sym (append_snoc (take i s) (get_or s i 0) (drop (suc i) t)) ∙ ap (λ l. l ++ drop (suc i) t) (sym (take-suc s i 0 k)) ∙ ap (over t s) (sym (add-one i))
 
 -- the rest of the input, moved to its beginning
 module _ (t : List ℕ) (from : ℕ) where

@@ -1,7 +1,7 @@
 use Prim.Native.Nat.{◌≤◌, ◌-◌}
 use mathlib.Core.Path.{◌≡◌}
 use lib.ListN.{length, drop}
-use Rattle.text.proofs.Stores.{over}
+use Rattle.lines.proofs.Steps.{over}
 use Rattle.lines.proofs.front.move_front.Given as goal
 
 abbrev pub invariant-loop-i : goal.invariant-loop-i
