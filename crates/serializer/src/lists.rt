@@ -1,5 +1,5 @@
-// What the writers look up in the table, and walks along lists. A reference is the table's own: a node's number and one,
-// or 0 for none (docs/NODES.md), and a list leads from its last place to its first.
+// What the writers look up in the table, and walks along lists. A reference is the table's own: a node's number and
+// one, or 0 for none (docs/NODES.md), and a list leads from its last place to its first.
 ghost use Rattle.std.specs.Prelude.{◌≡◌, ℕ, ◌-◌, ◌<◌, ◌≤◌, false, List};
 ghost use Rattle.node.specs.Cells.{cell_of, B};
 ghost use Rattle.meaning.specs.Tree.{tree_of, kid_of};

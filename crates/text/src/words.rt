@@ -1,5 +1,5 @@
-// The literals of the text, by number: operators, basic types and conventions have those that the table's cells hold, in
-// their order (docs/NODES.md), so that no match stands between a cell and its word; the others follow them.
+// The literals of the text, by number: operators, basic types and conventions have those that the table's cells hold,
+// in their order (docs/NODES.md), so that no match stands between a cell and its word; the others follow them.
 ghost use Rattle.std.specs.Prelude.{◌≡◌};
 ghost use Rattle.text.specs.Emit.{lit};
 ghost use Rattle.text.specs.Buffer.{Writes};

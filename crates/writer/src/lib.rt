@@ -1,4 +1,5 @@
-// The text of a node into a lent buffer: the crate's Serializer over the node table. Once something did not fit, nothing more is visited.
+// The text of a node into a lent buffer: the crate's Serializer over the node table. Once something did not fit,
+// nothing more is visited.
 #![tactic(auto)]
 
 ghost use Rattle.std.specs.Prelude.{◌≡◌, ◌<◌, ◌≤◌, ◌-◌, ◌⊎◌, length};
