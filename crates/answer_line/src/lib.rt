@@ -3,13 +3,13 @@
 
 ghost use Rattle.std.specs.Prelude.{◌≡◌, ◌≤◌, Ok, length};
 ghost use Rattle.text.specs.Emit.{Wrote, lit};
+ghost use Rattle.text.specs.Buffer.{Writes};
 ghost use Rattle.farthingmoss.specs.declared.Counts.{Counts};
-ghost use Rattle.answer_line.specs.Line.{decimal, ok_line, no_line, answer_line, line_of, line_cells, line_text};
+ghost use Rattle.answer_line.specs.Line.{ok_line, no_line, answer_line, line_of, line_cells, line_text};
 
 use farthingmoss::{Counts, Refused, demangle};
 use scan::limits::DEEPEST_READING;
-use text::buffer::{put, put_bytes};
-use text::decimal::fill_back;
+use text::buffer::Buffer;
 
 const FLAGS: u32 = 0;
 
@@ -22,41 +22,31 @@ pub const TEXT: usize = 4_096;
 
 pub const LONGEST_ANSWER: usize = TEXT + 4;
 
-// A place `o` in the lent buffer goes in, and the place behind what was written comes out, as with every writer here:
-// no heap, and the scope asks for a place in the text buffer.
-fn put_number(out: &mut [u8], o: usize, n: usize) -> usize
-    ensures { Wrote (lit (decimal n)) out.old o out.new result }
+fn put_text(out: &mut Buffer, text: &[u8])
+    ensures { Writes (lit (ok_line text.now)) out.old out.new }
 {
-    let mut buf = [0u8; 20];
-    let i = fill_back(&mut buf, n);
-    put_bytes(out, o, &buf[i..])
+    out.put_bytes(b"ok\t");
+    out.put_bytes(text);
+    out.put(b'\n');
 }
 
-fn put_text(out: &mut [u8], o: usize, text: &[u8]) -> usize
-    ensures { Wrote (lit (ok_line text.now)) out.old o out.new result }
+fn put_refusal(out: &mut Buffer, number: usize, offset: usize)
+    ensures { Writes (lit (no_line number offset)) out.old out.new }
 {
-    let o1 = put_bytes(out, o, b"ok\t");
-    let o2 = put_bytes(out, o1, text);
-    put(out, o2, b'\n')
+    out.put_bytes(b"no\t");
+    out.put_usize(number);
+    out.put(b'\t');
+    out.put_usize(offset);
+    out.put(b'\n');
 }
 
-fn put_refusal(out: &mut [u8], o: usize, number: usize, offset: usize) -> usize
-    ensures { Wrote (lit (no_line number offset)) out.old o out.new result }
-{
-    let o1 = put_bytes(out, o, b"no\t");
-    let o2 = put_number(out, o1, number);
-    let o3 = put(out, o2, b'\t');
-    let o4 = put_number(out, o3, offset);
-    put(out, o4, b'\n')
-}
-
-fn put_answer(out: &mut [u8], o: usize, a: Result<Counts, Refused>, text: &[u8]) -> usize
+fn put_answer(out: &mut Buffer, a: Result<Counts, Refused>, text: &[u8])
     requires { (c : Counts) → a ≡ Ok c → c.text ≤ length text.now }
-    ensures { Wrote (lit (answer_line a text.now)) out.old o out.new result }
+    ensures { Writes (lit (answer_line a text.now)) out.old out.new }
 {
     match a {
-        Ok(c) => put_text(out, o, &text[..c.text]),
-        Err(e) => put_refusal(out, o, e.number() as usize, e.counts().offset),
+        Ok(c) => put_text(out, &text[..c.text]),
+        Err(e) => put_refusal(out, e.number() as usize, e.counts().offset),
     }
 }
 
@@ -73,5 +63,7 @@ pub fn answer_line(
     ensures { Wrote (lit (line_of line.now)) out.old o out.new result }
 {
     let a = demangle(line, FLAGS, DEPTH, table, text);
-    put_answer(out, o, a, text)
+    let mut to = Buffer { bytes: out, at: o };
+    put_answer(&mut to, a, text);
+    to.at
 }

@@ -1,4 +1,15 @@
 // The bits of the crate's DemangleFlags that a text depends on.
+ghost use Rattle.std.specs.Prelude.{◌≡◌, ◌<◌};
+ghost use Rattle.serializer.specs.Flags.{has};
+
+// Whether a word of bits has this one.
+pub fn has(word: u32, bit: u32) -> bool
+    requires { 0 < bit }
+    ensures { result ≡ has word bit }
+{
+    word / bit % 2 == 1
+}
+
 pub const NO_MS_KEYWORDS: u32 = 2;
 
 pub const NO_FUNCTION_RETURNS: u32 = 4;

@@ -1,4 +1,5 @@
-// What the writers look up in the table, and walks along lists.
+// What the writers look up in the table, and walks along lists. A reference is the table's own: a node's number and
+// one, or 0 for none (docs/NODES.md), and a list leads from its last place to its first.
 ghost use Rattle.std.specs.Prelude.{◌≡◌, ℕ, ◌-◌, ◌<◌, ◌≤◌, false, List};
 ghost use Rattle.node.specs.Cells.{cell_of, B};
 ghost use Rattle.meaning.specs.Tree.{tree_of, kid_of};
@@ -51,8 +52,7 @@ pub fn guard_at(table: &[u32], up: usize) -> u32
 pub fn has_some(table: &[u32], r: usize) -> bool
     ensures { (s : List ℕ) → result ≡ has_some (tree_of table.now s r) }
 {
-    let p = skip_packs(table, r);
-    p != 0
+    skip_packs(table, r) != 0
 }
 
 // The list up to its last entry that is not an empty pack.
@@ -87,15 +87,13 @@ pub fn count_some(table: &[u32], r: usize) -> usize
 pub fn without_last(table: &[u32], r: usize, h: usize) -> usize
     ensures { ((s : List ℕ) → tree_of table.now s result ≡ without_last (tree_of table.now s r) h) × (result ≤ r) × (0 < h → 0 < r → result < r) }
 {
-    let mut i = h;
     let mut p = r;
-    while 0 < i {
+    for _ in 0..h {
         let q = skip_packs(table, p);
         if q == 0 {
             return 0;
         }
         p = kid(table, q - 1, cells::A);
-        i -= 1;
     }
     p
 }

@@ -1,5 +1,5 @@
 -- The words by their letters: each rule is one that antt computes over all words. Assumes nothing.
-use Rattle.std.proofs.Common.{◌≡◌, ℕ, zero, suc, ◌-◌, ◌*◌, ◌/◌, ◌%◌, ◌<◌, ◌≤◌, Bool, true, false, eqb, ltb, List, [], ◌∷◌, ◌++◌, map, length, sym, refl, ap, ◌∙◌, arith, ltb-false, ltb-true, eq-eqb, ne_eqb}
+use Rattle.std.proofs.Common.{◌≡◌, ℕ, zero, suc, ◌*◌, ◌/◌, ◌%◌, ◌^◌, ◌<◌, ◌≤◌, Bool, true, false, ◌==◌, eqb, ltb, List, [], ◌∷◌, ◌++◌, map, length, sym, refl, ap, ◌∙◌, arith, ltb-false, ltb-true, eq-eqb, ne_eqb, pow-suc}
 use lib.ListN.{get_or-eq_default}
 use lib.Seq.{drop-nil}
 use Rattle.scan.specs.Bytes.{pick, bytes}
@@ -15,11 +15,6 @@ unfolding spell lit none
 spelled_none b o zero c h = wrote_none b o
 spelled_none b o (suc n) c h = rw h (wrote_none b o)
 
-pub spelled-all : (b : List ℕ) (o n c : ℕ) → n ≤ 0 → Wrote (lit (spell n c)) b o b o
-unfolding spell lit none
-spelled-all b o zero c h = wrote_none b o
-spelled-all b o (suc n) c h = absurd (omega arith)
-
 -- two texts of bytes are one
 pub wrote-both : (s t : List ℕ) {b b₁ b₂ : List ℕ} {o o₁ o₂ : ℕ} → Wrote (lit s) b o b₁ o₁ → Wrote (lit t) b₁ o₁ b₂ o₂ → Wrote (lit (s ++ t)) b o b₂ o₂
 unfolding lit ◌⨾◌
@@ -30,11 +25,15 @@ spell-more : (n c : ℕ) → (c ≡ 0 → ⊥) → spell (suc n) c ≡ (c % 256)
 unfolding spell
 spell-more n c k = ap (λ b. pick b [] ((c % 256) ∷ spell n (c / 256))) (ne_eqb c 0 k)
 
-pub spelled-more : {b b₁ b₂ : List ℕ} {o o₁ o₂ : ℕ} (n c : ℕ) → 0 < n → (c ≡ 0 → ⊥) → Wrote (lit ((c % 256) ∷ [])) b o b₁ o₁ → Wrote (lit (spell (n - 1) (c / 256))) b₁ o₁ b₂ o₂ → Wrote (lit (spell n c)) b o b₂ o₂
-spelled-more zero c h k v w = absurd (omega arith)
-spelled-more (suc n) c h k v w =
-    let e : suc n - 1 ≡ n = omega arith in
-    wrote-is (ap lit (spell-more n c k)) (wrote-both ((c % 256) ∷ []) (spell n (c / 256)) v (rw e at w))
+-- eight letters are room for one more, where the number has no more than seven
+spell-room : (n c : ℕ) → c < 256 ^ n → spell n c ≡ spell (suc n) c
+unfolding spell
+spell-room zero c h = let e : c ≡ 0 = omega (arith, h) in rw e
+spell-room (suc n) c h = ap (λ t. pick (c == 0) [] ((c % 256) ∷ t)) (spell-room n (c / 256) (omega (arith, h, pow-suc 256 n)))
+
+pub spelled-more : {b b₁ b₂ : List ℕ} {o o₁ o₂ : ℕ} (c : ℕ) → c < 2 ^ 64 → (c ≡ 0 → ⊥) → Wrote (lit ((c % 256) ∷ [])) b o b₁ o₁ → Wrote (lit (spell 8 (c / 256))) b₁ o₁ b₂ o₂ → Wrote (lit (spell 8 c)) b o b₂ o₂
+spelled-more c h k v w =
+    wrote-is (ap lit (spell-more 7 c k)) (wrote-both ((c % 256) ∷ []) (spell 7 (c / 256)) v (wrote-is (ap lit (spell-room 7 (c / 256) (omega (arith, h)))) w))
 
 -- how many words there are, and what is so of each of them and past them is so of every number
 abbrev count : ℕ

@@ -1,13 +1,15 @@
 -- One writer after another writes the one text after the other. Assumes nothing.
 --     wrote_none, wrote-full     nothing is written; the text did not fit before
+--     wrote-past, has_room       what a test for that says
 --     wrote-seq                  a text and then another
 --     wrote-same, wrote-is       the same text by another name
+--     writes-..                  the same of a writer's text
 --     seq-assoc, seq-none, none-seq
-use Rattle.std.proofs.Common.{◌≡◌, ℕ, ◌+◌, ◌<◌, ◌≤◌, List, [], ◌∷◌, ◌++◌, length, take, drop, sym, refl, ap, ◌∙◌, ap₂, append_assoc, append-nil, add-zero, le_of_lt, arith, length-append, take-append-drop, length-take-le, take_all, le-ltb, lt-ltb, le-leb}
+use Rattle.std.proofs.Common.{IsTrue, ◌↔◌, Bool, true, false, ◌≡◌, ℕ, ◌+◌, ◌<◌, ◌≤◌, List, [], ◌∷◌, ◌++◌, length, take, drop, sym, refl, ap, ◌∙◌, ap₂, append_assoc, append-nil, add-zero, le_of_lt, arith, length-append, take-append-drop, length-take-le, take_all, le-ltb, lt-ltb, le-leb}
 use mathlib.Core.Path.{fun_ext}
 use native.Mathlib.Decide.{dec_le, dec_lt}
 use borrow.Author.Tests.{lt-leb}
-use Rattle.text.specs.Emit.{Text, last_of, none, ◌⨾◌, cut, last_at, place_after, Wrote}
+use Rattle.text.specs.Emit.{Text, last_of, none, when, ◌⨾◌, cut, last_at, place_after, Wrote}
 use Rattle.text.proofs.Cut.{length_cut, take-cut, cut-more, cut-self, cut_fits, cut-cut}
 
 pub last_of-append : (l : ℕ) (s t : List ℕ) → last_of l (s ++ t) ≡ last_of (last_of l s) t
@@ -33,6 +35,17 @@ cut-full b t n h = rw (take_all n b (le_of_lt h)) (cut-self b t)
 
 pub wrote-full : (T : Text) (b : List ℕ) (o : ℕ) → length b < o → Wrote T b o b o
 wrote-full T b o h = record { buf = sym (cut-full b (T (last_at b o)) o h); out = sym (place-full (length b) o (length (T (last_at b o))) h) }
+
+-- a test for what did not fit, passed and failed
+pub wrote-past : (T : Text) {b : List ℕ} {o : ℕ} → (IsTrue true ↔ (length b < o)) → Wrote T b o b o
+wrote-past T e = wrote-full T _ _ (e.0 refl)
+
+pub has_room : {n o : ℕ} → (IsTrue false ↔ (n < o)) → o ≤ n
+has_room {n} {o} e = by (dec_le o n)
+  where
+    by : Dec (o ≤ n) → o ≤ n
+    by (yes h) = h
+    by (no h) = let x : false ≡ true = e.1 (omega (arith, h)) in cc x
 
 pub wrote_none : (b : List ℕ) (o : ℕ) → Wrote none b o b o
 unfolding none
@@ -139,3 +152,24 @@ seq-none f = fun_ext (λ l. append-nil (f l))
 pub none-seq : (f : Text) → none ⨾ f ≡ f
 unfolding ◌⨾◌ none last_of
 none-seq f = fun_ext (λ l. refl)
+
+-- the same, where the bytes stay those that were lent, by their name g
+module _ {G : Type 0} {b : List ℕ} {o : ℕ} {g : G} where
+  pub writes-none : Wrote none b o b o × (g ≡ g)
+  writes-none = (wrote_none _ _, refl)
+
+  pub writes-past : {T : Text} → (IsTrue true ↔ (length b < o)) → Wrote T b o b o × (g ≡ g)
+  writes-past {T} e = (wrote-past T e, refl)
+
+  module _ {b₁ : List ℕ} {o₁ : ℕ} {g₁ : G} where
+    pub writes-when : {t t' : Bool} (T : Text) → t ≡ t' → Wrote (when t T) b o b₁ o₁ × (g₁ ≡ g) → Wrote (when t' T) b o b₁ o₁ × (g₁ ≡ g)
+    writes-when T e v = rw (sym e) v
+
+    pub writes-same : {T T' : Text} → T (last_at b o) ≡ T' (last_at b o) → Wrote T b o b₁ o₁ × (g₁ ≡ g) → Wrote T' b o b₁ o₁ × (g₁ ≡ g)
+    writes-same e v = (wrote-same e v.0, v.1)
+
+    pub writes-is : {T T' : Text} → T ≡ T' → Wrote T' b o b₁ o₁ × (g₁ ≡ g) → Wrote T b o b₁ o₁ × (g₁ ≡ g)
+    writes-is e v = (wrote-is e v.0, v.1)
+
+    pub writes-seq : {T₁ T₂ : Text} {b₂ : List ℕ} {o₂ : ℕ} {g₂ : G} → Wrote T₁ b o b₁ o₁ × (g₁ ≡ g) → Wrote T₂ b₁ o₁ b₂ o₂ × (g₂ ≡ g₁) → Wrote (T₁ ⨾ T₂) b o b₂ o₂ × (g₂ ≡ g)
+    writes-seq v u = (wrote-seq v.0 u.0, u.1 ∙ v.1)

@@ -1,7 +1,10 @@
 -- What the leaves of the writer store is what `Wrote` says. Assumes nothing.
-use Rattle.std.proofs.Common.{◌≡◌, ℕ, suc, ◌+◌, ◌-◌, ◌<◌, ◌≤◌, List, [], ◌∷◌, ◌++◌, length, get_or, take, drop, set, sym, refl, ap, ◌∙◌, ap₂, append_assoc, append-nil, le_refl, add-one, arith, length-append, length-drop, drop_of_length-le, length-take-le, take_all, drop-cons, get_or-take, take-suc, drop-drop}
+use Rattle.std.proofs.Common.{◌≡◌, ℕ, suc, ◌+◌, ◌-◌, ◌<◌, ◌≤◌, List, [], ◌∷◌, ◌++◌, length, get_or, take, drop, set, sym, refl, ap, ◌∙◌, ap₂, append_assoc, append-nil, le_refl, add-one, arith, length-append, length-drop, drop_of_length-le, length-take-le, take_all, get_or-take, drop-drop}
+use native.Mathlib.Decide.{dec_le}
+use Rattle.std.specs.Prelude.{min}
+use Rattle.std.proofs.Math.Nat.{min-eq_left, min-eq_right}
 use borrow.Rule.Slice.PartMut.{put_mid}
-use lib.Seq.{set_split, set_at, take-append-add, append_snoc}
+use lib.Seq.{set_split, take-append-add, append_snoc}
 use Rattle.text.specs.Emit.{last_of, lit, cut, last_at, place_after, Wrote}
 use Rattle.text.proofs.Cut.{length_cut, cut-self, cut_fits}
 use Rattle.text.proofs.Seq.{place-fits, place-over}
@@ -28,23 +31,14 @@ wrote-end b o x e =
       out = ap (λ n. n + 1) e ∙ sym (place-over (length b) o 1 h k);
     }
 
--- the first i bytes of s over those of t
-abbrev pub over : List ℕ → List ℕ → ℕ → List ℕ
-over t s i = take i s ++ drop i t
-
-pub over-more : (t s : List ℕ) (i : ℕ) → i < length t → i < length s → set (over t s i) i (get_or s i 0) ≡ over t s (i + 1)
-over-more t s i h k =
-    let e : length (take i s) ≡ i = length-take-le i s (omega arith) in
-    ap (λ l. set (take i s ++ l) i (get_or s i 0)) (drop-cons t i 0 h) ∙ set_at (take i s) (get_or t i 0) (drop (suc i) t) (get_or s i 0) i e
-    ∙ sym (append_snoc (take i s) (get_or s i 0) (drop (suc i) t)) ∙ ap (λ l. l ++ drop (suc i) t) (sym (take-suc s i 0 k)) ∙ ap (over t s) (sym (add-one i))
-
-pub over-all : (t s : List ℕ) (i : ℕ) → i ≤ length t → i ≡ length s → over t s i ≡ cut t s
+-- as many bytes of s as there is room for, over those of b
+pub cut_min : (b s : List ℕ) (n : ℕ) → n ≡ min (length s) (length b) → take n s ++ drop n b ≡ cut b s
 unfolding cut
-over-all t s i h e = rw e (ap (λ l. l ++ drop (length s) t) (take_all (length s) s (le_refl (length s)) ∙ sym (take_all (length t) s (omega arith))))
-
-pub over-full : (t s : List ℕ) (i : ℕ) → i ≡ length t → i < length s → over t s i ≡ cut t s
-unfolding cut
-over-full t s i e h = let k : length t ≤ length s = omega arith in rw e (ap (λ l. take (length t) s ++ l) (drop_of_length-le t (le_refl (length t)) ∙ sym (drop_of_length-le t k)))
+cut_min b s n e = by (dec_le (length s) (length b))
+  where
+    by : Dec (length s ≤ length b) → take n s ++ drop n b ≡ take (length b) s ++ drop (length s) b
+    by (yes h) = let q : n ≡ length s = e ∙ min-eq_left h in rw q (ap (λ l. l ++ drop (length s) b) (take_all (length s) s (le_refl (length s)) ∙ sym (take_all (length b) s h)))
+    by (no h) = let q : n ≡ length b = e ∙ min-eq_right (omega (arith, h)) in rw q (ap (λ l. take (length b) s ++ l) (drop_of_length-le b (le_refl (length b)) ∙ sym (drop_of_length-le b (omega (arith, h)))))
 
 -- a part from a on, with s stored over it, put back
 part_cut : (b s : List ℕ) (a : ℕ) → a ≤ length b → put_mid a (length b - a) b (cut (take (length b - a) (drop a b)) s) ≡ cut b (take a b ++ s)
@@ -91,9 +85,16 @@ last-is b o z h =
 abbrev pub Ends : List ℕ → ℕ → ℕ → Type 0
 Ends b o e = (e ≤ length b) × (last_at b e ≡ last_at b o)
 
-pub ends-within : (b : List ℕ) (o e : ℕ) → o ≤ length b → e ≡ o → Ends b o e
+ends-within : (b : List ℕ) (o e : ℕ) → o ≤ length b → e ≡ o → Ends b o e
 ends-within b o e h q = (omega arith, ap (last_at b) q)
 
-pub ends-past : (b : List ℕ) (o e : ℕ) → length b < o → e ≡ length b → Ends b o e
+ends-past : (b : List ℕ) (o e : ℕ) → length b < o → e ≡ length b → Ends b o e
 unfolding last_at
 ends-past b o e h q = (omega arith, ap (last_of 256) (take_all e b (omega arith) ∙ sym (take_all o b (omega arith))))
+
+pub ends-min : (b : List ℕ) (o e : ℕ) → e ≡ min o (length b) → Ends b o e
+ends-min b o e q = by (dec_le o (length b))
+  where
+    by : Dec (o ≤ length b) → Ends b o e
+    by (yes h) = ends-within b o e h (q ∙ min-eq_left h)
+    by (no h) = ends-past b o e (omega (arith, h)) (q ∙ min-eq_right (omega (arith, h)))

@@ -3,3 +3,4 @@ pub mod Spaces
 pub mod Words
 pub mod Letters
 pub mod Decimal
+pub mod Buffer

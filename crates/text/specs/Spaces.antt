@@ -1,8 +1,10 @@
 -- Where a space is written, by the last byte: the crate's three spacing helpers, and the tests that write_calling_conv and write_tmpl_params make.
 -- Assumes nothing: these are definitions.
-use Rattle.std.specs.Prelude.{ℕ, Bool, true, false, [], ◌∷◌, slice_index_or}
+use Rattle.std.specs.Prelude.{ℕ, Bool, true, false}
 use Rattle.scan.specs.Bytes.{pick, is, is_upper, is_lower}
 use Rattle.text.specs.Emit.{Text, put, when}
+use Rattle.text.specs.declared.spaces.Spacing.{Spacing}
+use Rattle.text.specs.declared.spaces.Spacing.TheVariants.{Pre, Ptr, Any, NotSet, Close}
 
 abbrev pub or : Bool → Bool → Bool
 or a b = pick a true b
@@ -43,6 +45,10 @@ write_space_ptr = space_where after_ptr
 unfoldable pub write_space : Text
 write_space = space_where after_any
 
--- the tests by number
-unfoldable pub asks_by : ℕ → ℕ → Bool
-asks_by rule = slice_index_or (after_pre ∷ after_ptr ∷ after_any ∷ not_set ∷ after_close ∷ []) rule (λ c. false)
+-- the tests by name
+unfoldable pub asks_by : Spacing → ℕ → Bool
+asks_by Pre = after_pre
+asks_by Ptr = after_ptr
+asks_by Any = after_any
+asks_by NotSet = not_set
+asks_by Close = after_close

@@ -1,69 +1,82 @@
-// Bytes into the text.
-ghost use Rattle.std.specs.Prelude.{◌≡◌, [], ◌∷◌, length};
-ghost use Rattle.text.specs.Emit.{Wrote, cut, lit, place_after, last_at};
+// A text being written, and bytes into it.
+ghost use Rattle.std.specs.Prelude.{◌≡◌, ◌<◌, [], ◌∷◌, length, IsTrue, ◌↔◌};
+ghost use Rattle.text.specs.Emit.{lit, cut, place_after, last_at};
+ghost use Rattle.text.specs.Buffer.{Writes};
+
+// The bytes lent for a text, and the place after what is written: one past their end once something did not fit.
+#[derive(Drop)]
+pub struct Buffer<'a> {
+    pub bytes: &'a mut [u8],
+    pub at: usize,
+}
+
+// The last byte of a text with nothing in it.
+const NO_BYTE: u32 = 256;
 
 // As much of s as there is room for.
 pub fn fill(rest: &mut [u8], s: &[u8])
     ensures { rest.new ≡ cut rest.old s.now }
 {
-    let mut i = 0;
-    while i < s.len() {
-        if rest.len() <= i {
-            break;
+    let n = s.len().min(rest.len());
+    rest[..n].copy_from_slice(&s[..n]);
+}
+
+impl Buffer<'_> {
+    // Whether something did not fit.
+    pub fn is_past(&self) -> bool
+        ensures { IsTrue result ↔ length self.now.bytes.now < self.now.at }
+    {
+        self.bytes.len() < self.at
+    }
+
+    // The place after n bytes more.
+    pub fn place_after(&self, n: usize) -> usize
+        ensures { result ≡ place_after (length self.now.bytes.now) self.now.at n }
+    {
+        let room = self.bytes.len();
+        if room < self.at {
+            return self.at;
         }
-        rest[i] = s[i];
-        i += 1;
+        if n <= room - self.at {
+            self.at + n
+        } else {
+            room + 1
+        }
     }
-}
 
-// The place after n bytes more.
-pub fn advance(text: &[u8], o: usize, n: usize) -> usize
-    ensures { result ≡ place_after (length text.now) o n }
-{
-    if text.len() < o {
-        return o;
+    // The bytes of s.
+    pub fn put_bytes(&mut self, s: &[u8])
+        ensures { Writes (lit s.now) self.old self.new }
+    {
+        if self.is_past() {
+            return;
+        }
+        let at = self.at;
+        fill(&mut self.bytes[at..], s);
+        self.at = self.place_after(s.len());
     }
-    if n <= text.len() - o {
-        o + n
-    } else {
-        text.len() + 1
-    }
-}
 
-// The bytes of s.
-pub fn put_bytes(text: &mut [u8], o: usize, s: &[u8]) -> usize
-    ensures { Wrote (lit s.now) text.old o text.new result }
-{
-    if text.len() < o {
-        return o;
+    // One byte; the first that has no room leaves the place past the end.
+    pub fn put(&mut self, b: u8)
+        ensures { Writes (lit (b ∷ [])) self.old self.new }
+    {
+        if self.at < self.bytes.len() {
+            self.bytes[self.at] = b;
+            self.at += 1;
+        } else if self.at == self.bytes.len() {
+            self.at += 1;
+        }
     }
-    fill(&mut text[o..], s);
-    advance(text, o, s.len())
-}
 
-// One byte.
-pub fn put(text: &mut [u8], o: usize, b: u8) -> usize
-    ensures { Wrote (lit (b ∷ [])) text.old o text.new result }
-{
-    if text.len() < o {
-        return o;
+    // The last byte written, as a number.
+    pub fn last_byte(&self) -> u32
+        ensures { result ≡ last_at self.now.bytes.now self.now.at }
+    {
+        let end = self.at.min(self.bytes.len());
+        if end == 0 {
+            NO_BYTE
+        } else {
+            self.bytes[end - 1] as u32
+        }
     }
-    let next = o + 1;
-    if o == text.len() {
-        return next;
-    }
-    text[o] = b;
-    next
-}
-
-// The last byte written, as a number; 256 where there is none.
-pub fn last_byte(text: &[u8], o: usize) -> u32
-    ensures { result ≡ last_at text.now o }
-{
-    let end = if o <= text.len() { o } else { text.len() };
-    if end == 0 {
-        return 256;
-    }
-    let i = end - 1;
-    text[i] as u32
 }

@@ -1,57 +1,80 @@
 // Numbers in decimal.
 ghost use Rattle.std.specs.Prelude.{◌≡◌, ◌≤◌, [], length, drop};
-ghost use Rattle.text.specs.Emit.{Wrote, lit, cut};
+ghost use Rattle.text.specs.Emit.{lit, cut};
 ghost use Rattle.text.specs.Decimal.{digits, unsigned, decimal};
+ghost use Rattle.text.specs.Buffer.{Writes};
 
-use crate::buffer::{advance, fill, put};
+use crate::buffer::{Buffer, fill};
+
+// The most digits of a u32 and of a usize.
+const OF_U32: usize = 10;
+
+const OF_USIZE: usize = 20;
 
 // The digits of n, at the end of buf; where they start.
 pub fn fill_back(buf: &mut [u8], n: usize) -> usize
     ensures { (result ≤ length buf.new) × (drop result buf.new ≡ digits (length buf.old) n []) }
 {
-    let mut i = buf.len();
     let mut v = n;
-    while 0 < i {
-        let d = (v % 10) as u8;
-        i -= 1;
-        buf[i] = 48 + d;
+    for i in (0..buf.len()).rev() {
+        buf[i] = b'0' + (v % 10) as u8;
         if v < 10 {
             return i;
         }
         v /= 10;
     }
-    i
+    0
 }
 
-// As many digits of n as there is room for; how many it has.
-fn fill_digits(rest: &mut [u8], n: u32) -> usize
-    ensures { (rest.new ≡ cut rest.old (unsigned n)) × (result ≡ length (unsigned n)) }
+// As many of the at most N digits of n as there is room for; how many it has.
+fn fill_digits<const N: usize>(rest: &mut [u8], n: usize) -> usize
+    requires { N ≤ 20 }
+    ensures { (rest.new ≡ cut rest.old (digits N n [])) × (result ≡ length (digits N n [])) }
 {
-    let mut buf = [0u8; 10];
-    let i = fill_back(&mut buf, n as usize);
-    fill(rest, &buf[i..]);
-    10 - i
+    let mut buf = [0u8; N];
+    let i = fill_back(&mut buf, n);
+    let all = &buf[..];
+    fill(rest, &all[i..]);
+    N - i
 }
 
-// A u32.
-pub fn put_unsigned(text: &mut [u8], o: usize, n: u32) -> usize
-    ensures { Wrote (lit (unsigned n)) text.old o text.new result }
-{
-    if text.len() < o {
-        return o;
+impl Buffer<'_> {
+    // A number of at most N digits.
+    fn put_digits<const N: usize>(&mut self, n: usize)
+        requires { N ≤ 20 }
+        ensures { Writes (lit (digits N n [])) self.old self.new }
+    {
+        if self.is_past() {
+            return;
+        }
+        let at = self.at;
+        let count = fill_digits::<N>(&mut self.bytes[at..], n);
+        self.at = self.place_after(count);
     }
-    let count = fill_digits(&mut text[o..], n);
-    advance(text, o, count)
-}
 
-// The i32 whose bits are n.
-pub fn put_decimal(text: &mut [u8], o: usize, n: u32) -> usize
-    ensures { Wrote (lit (decimal n)) text.old o text.new result }
-{
-    if n < 0x8000_0000 {
-        return put_unsigned(text, o, n);
+    // A u32.
+    pub fn put_unsigned(&mut self, n: u32)
+        ensures { Writes (lit (unsigned n)) self.old self.new }
+    {
+        self.put_digits::<OF_U32>(n as usize);
     }
-    let m = (0x1_0000_0000 - (n as u64)) as u32;
-    let o1 = put(text, o, b'-');
-    put_unsigned(text, o1, m)
+
+    // A usize.
+    pub fn put_usize(&mut self, n: usize)
+        ensures { Writes (lit (digits 20 n [])) self.old self.new }
+    {
+        self.put_digits::<OF_USIZE>(n);
+    }
+
+    // The i32 whose bits are n.
+    pub fn put_decimal(&mut self, n: u32)
+        ensures { Writes (lit (decimal n)) self.old self.new }
+    {
+        if n < 0x8000_0000 {
+            self.put_unsigned(n);
+            return;
+        }
+        self.put(b'-');
+        self.put_unsigned(n.wrapping_neg());
+    }
 }

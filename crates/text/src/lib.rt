@@ -1,5 +1,5 @@
-// The text buffer. The state of a writer is one number, `o`: how many bytes are written, or one more than the buffer holds once something did
-// not fit. Each function writes what a text of specs/ says, cut where the buffer ends.
+// The text buffer: a struct of the bytes that are lent and the place in them, whose methods write. Each writes what a
+// text of specs/ says, cut where the bytes end; once something did not fit, the place is one past them and stays there.
 #![tactic(auto)]
 
 pub mod buffer;

@@ -1,20 +1,19 @@
 // Spaces that the last byte asks for.
 ghost use Rattle.std.specs.Prelude.{◌≡◌};
-ghost use Rattle.text.specs.Emit.{Wrote};
 ghost use Rattle.text.specs.Spaces.{after_pre, after_ptr, after_any, not_set, asks_by, space_where};
+ghost use Rattle.text.specs.Buffer.{Writes};
 
-use crate::buffer::{last_byte, put};
+use crate::buffer::Buffer;
 
 // The tests of write_space_pre, write_space_ptr, write_space, write_calling_conv and write_tmpl_params.
-pub const PRE: usize = 0;
-
-pub const PTR: usize = 1;
-
-pub const ANY: usize = 2;
-
-pub const NOT_SET: usize = 3;
-
-pub const CLOSE: usize = 4;
+#[derive(Clone, Copy)]
+pub enum Spacing {
+    Pre,
+    Ptr,
+    Any,
+    NotSet,
+    Close,
+}
 
 fn is_after_ptr(l: u32) -> bool
     ensures { result ≡ after_ptr l }
@@ -31,45 +30,46 @@ fn is_after_ptr(l: u32) -> bool
 fn is_after_pre(l: u32) -> bool
     ensures { result ≡ after_pre l }
 {
-    if l == 38 { true } else { is_after_ptr(l) }
+    l == 38 || is_after_ptr(l)
 }
 
 fn is_after_any(l: u32) -> bool
     ensures { result ≡ after_any l }
 {
-    if l == 42 { true } else { is_after_pre(l) }
+    l == 42 || is_after_pre(l)
 }
 
 fn is_not_set(l: u32) -> bool
     ensures { result ≡ not_set l }
 {
-    if l == 32 { false } else { l != 40 }
+    l != 32 && l != 40
 }
 
-fn is_asked(rule: usize, l: u32) -> bool
-    ensures { result ≡ asks_by rule l }
-{
-    match rule {
-        0 => is_after_pre(l),
-        1 => is_after_ptr(l),
-        2 => is_after_any(l),
-        3 => is_not_set(l),
-        4 => l == 62,
-        _ => false,
+impl Spacing {
+    // Whether a space is asked for after the last byte l.
+    fn is_asked(self, l: u32) -> bool
+        ensures { result ≡ asks_by self l }
+    {
+        match self {
+            Spacing::Pre => is_after_pre(l),
+            Spacing::Ptr => is_after_ptr(l),
+            Spacing::Any => is_after_any(l),
+            Spacing::NotSet => is_not_set(l),
+            Spacing::Close => l == 62,
+        }
     }
 }
 
-// A space, where the last byte passes the test.
-pub fn put_space(text: &mut [u8], o: usize, rule: usize) -> usize
-    ensures { Wrote (space_where (asks_by rule)) text.old o text.new result }
-{
-    if text.len() < o {
-        return o;
-    }
-    let l = last_byte(text, o);
-    if is_asked(rule, l) {
-        put(text, o, b' ')
-    } else {
-        o
+impl Buffer<'_> {
+    // A space, where the last byte passes the test.
+    pub fn put_space(&mut self, rule: Spacing)
+        ensures { Writes (space_where (asks_by rule)) self.old self.new }
+    {
+        if self.is_past() {
+            return;
+        }
+        if rule.is_asked(self.last_byte()) {
+            self.put(b' ');
+        }
     }
 }

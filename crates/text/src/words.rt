@@ -1,10 +1,12 @@
-// The literals of the text, by number.
+// The literals of the text, by number: operators, basic types and conventions have those that the table's cells hold,
+// in their order (docs/NODES.md), so that no match stands between a cell and its word; the others follow them.
 ghost use Rattle.std.specs.Prelude.{◌≡◌};
-ghost use Rattle.text.specs.Emit.{Wrote, lit};
+ghost use Rattle.text.specs.Emit.{lit};
+ghost use Rattle.text.specs.Buffer.{Writes};
 ghost use Rattle.text.specs.Words.{word};
 ghost use Rattle.text.specs.Letters.{spell, piece};
 
-use crate::buffer::put;
+use crate::buffer::Buffer;
 
 // Operators have their own numbers, 0 to 74.
 pub const GUARD: usize = 47;
@@ -97,7 +99,8 @@ pub const LVALUE: usize = 143;
 
 // A piece of a word is eight of its letters as a number, the first letter lowest, and 0 where there are none. It is a
 // constant of a long match, since an array of constants is built on the stack at each call, and a match of constants
-// becomes a table of the compiled program. Each word has its own arm: with a range it becomes a table of jumps.
+// becomes a table of the compiled program. Each word has its own arm: with a range it becomes a table of jumps. The five
+// share no arm: one function of word and piece would have the same arms, and a choice among the five at each call.
 // The first piece of word w.
 fn first(w: usize) -> u64
     ensures { result ≡ piece 0 w }
@@ -437,39 +440,34 @@ fn fifth(w: usize) -> u64
     }
 }
 
-// The letters that c spells, eight at most.
-fn put_letters(text: &mut [u8], o: usize, c: u64) -> usize
-    ensures { Wrote (lit (spell 8 c)) text.old o text.new result }
-{
-    let mut at = o;
-    let mut rest = c;
-    let mut left = 8usize;
-    while 0 < left {
-        if rest == 0 {
-            break;
+impl Buffer<'_> {
+    // The letters that c spells, eight at most.
+    fn put_letters(&mut self, c: u64)
+        ensures { Writes (lit (spell 8 c)) self.old self.new }
+    {
+        let mut rest = c;
+        while rest != 0 {
+            self.put((rest % 256) as u8);
+            rest /= 256;
         }
-        at = put(text, at, (rest % 256) as u8);
-        rest /= 256;
-        left -= 1;
     }
-    at
-}
 
-// Word w; nothing where there is no such word.
-pub fn put_word(text: &mut [u8], o: usize, w: usize) -> usize
-    ensures { Wrote (lit (word w)) text.old o text.new result }
-{
-    let o1 = put_letters(text, o, first(w));
-    let b = second(w);
-    if b == 0 {
-        return o1;
+    // Word w; nothing where there is no such word.
+    pub fn put_word(&mut self, w: usize)
+        ensures { Writes (lit (word w)) self.old self.new }
+    {
+        self.put_letters(first(w));
+        let b = second(w);
+        if b == 0 {
+            return;
+        }
+        self.put_letters(b);
+        let c = third(w);
+        if c == 0 {
+            return;
+        }
+        self.put_letters(c);
+        self.put_letters(fourth(w));
+        self.put_letters(fifth(w));
     }
-    let o2 = put_letters(text, o1, b);
-    let c = third(w);
-    if c == 0 {
-        return o2;
-    }
-    let o3 = put_letters(text, o2, c);
-    let o4 = put_letters(text, o3, fourth(w));
-    put_letters(text, o4, fifth(w))
 }

@@ -14,7 +14,7 @@ use Rattle.meaning.specs.Tree.{Tree, node, content_of, bytes_of, tree_of, kid_of
 use Rattle.meaning.proofs.Trees.{tree-none, tree_is}
 use Rattle.text.specs.Emit.{Text, none, lit, put, ◌⨾◌, Wrote, unless}
 use Rattle.text.specs.Spaces.{write_space}
-use Rattle.text.proofs.Seq.{none-seq, wrote_none}
+use Rattle.text.proofs.Seq.{none-seq, writes-none}
 use Rattle.serializer.specs.Flags.{has, NAME_ONLY, NO_CLASS_TYPE}
 use Rattle.serializer.specs.Serializer.{p, q, kind_of, no_return, no_cast, serialize, write_pre, write_post, write_return, write_pointee, write_opening, write_hug, write_storage_class, write_plain, write_name, write_closing, write_types, write_memfn_qualifiers}
 use Rattle.serializer.specs.Pieces.{mark, class_name, guard_of, cast_of}
@@ -23,11 +23,11 @@ use Rattle.serializer.proofs.Walks.{guard-not}
 use Rattle.node.specs.Kind.{kind_number, Alias, AnonymousId, Array, AsInterface, CXXVBTable, CXXVFTable, ConstantString, Enum, Md5, MemberFunction, MemberFunctionPointer, NonMemberFunction, NonTemplate, ParseResult, Ptr, RValueRef, Struct, VCallThunk, Var}
 
 -- what is asked for, and what is not
-pub unless_not : {b b' : List ℕ} {o o' : ℕ} (e : Bool) (T : Text) → e ≡ false → Wrote T b o b' o' → Wrote (unless e T) b o b' o'
+pub unless_not : {G : Type 0} {b b' : List ℕ} {o o' : ℕ} {g g' : G} (e : Bool) (T : Text) → e ≡ false → Wrote T b o b' o' × (g' ≡ g) → Wrote (unless e T) b o b' o' × (g' ≡ g)
 unless_not e T h w = rw h w
 
-pub unless-so : {b : List ℕ} {o : ℕ} (e : Bool) (T : Text) → e ≡ true → Wrote (unless e T) b o b o
-unless-so e T h = rw h (wrote_none _ _)
+pub unless-so : {G : Type 0} {b : List ℕ} {o : ℕ} {g : G} (e : Bool) (T : Text) → e ≡ true → Wrote (unless e T) b o b o × (g ≡ g)
+unless-so e T h = rw h writes-none
 
 -- a number outside a range is none of it
 pub outside : {k low high : ℕ} (j : ℕ) → (k < low) ⊎ (high < k) → low ≤ j → j ≤ high → k ≡ j → ⊥

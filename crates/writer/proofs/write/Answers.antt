@@ -1,13 +1,13 @@
 -- Assumes nothing.
-use native.Mathlib.Omega.{arith}
+use Rattle.std.proofs.Common.{sym, ◌∙◌}
 use Rattle.writer.specs.Written.{text_of}
 use Rattle.writer.proofs.Ended.{ends-text, ends-cut, ends-whole}
 use Rattle.writer.proofs.write.Goals as goal
 
-pub returns-then-text-o : goal.returns-then-text-o
+pub returns-then-is_past : goal.returns-then-is_past
 unfolding text_of
-returns-then-text-o c = (ends-cut c.parsed-o.ensures (omega (arith, c.if-text-o.true, c.parsed-o.auto.text)), ends-text c.parsed-o.ensures)
+returns-then-is_past c = (ends-cut c.parsed.ensures.0 c.if-is_past.ensures, c.text-1.given.1.1 (sym c.parsed.ensures.1) ∙ ends-text c.parsed.ensures.0)
 
 pub returns : goal.returns
 unfolding text_of
-returns c = (ends-whole c.parsed-o.ensures (omega (arith, c.if-text-o.false, c.parsed-o.auto.text)), ends-text c.parsed-o.ensures)
+returns c = (ends-whole c.parsed.ensures.0 c.if-is_past.ensures, c.text-2-1.given.1.1 (sym c.parsed.ensures.1) ∙ ends-text c.parsed.ensures.0)

@@ -1,13 +1,13 @@
 -- Assumes nothing.
-use Rattle.std.proofs.Common.{eq-eqb, ne_eqb}
-use Rattle.text.specs.Spaces.{write_space_ptr, write_space_pre, asks_by}
+use Rattle.std.proofs.Common.{sym, ◌∙◌}
+use Rattle.text.specs.Spaces.{write_space_pre, write_space_ptr, asks_by}
 use Rattle.serializer.specs.Serializer.{write_name_space}
 use Rattle.serializer.proofs.names.put_name_space.Goals as goal
 
-pub returns-then-flags-eq1 : goal.returns-then-flags-eq1
+pub returns-then-has : goal.returns-then-has
 unfolding write_name_space write_space_ptr asks_by
-returns-then-flags-eq1 c = rw (eq-eqb _ _ c.if-flags-eq1.true) c.put_space.ensures
+returns-then-has c = rw (sym c.has.ensures ∙ c.if-has.true) c.put_space.ensures
 
-pub returns : goal.returns
+pub returns-else-has : goal.returns-else-has
 unfolding write_name_space write_space_pre asks_by
-returns c = rw (ne_eqb _ _ c.if-flags-eq1.false) c.put_space-2.ensures
+returns-else-has c = rw (sym c.has.ensures ∙ c.if-has.false) c.put_space-else-has.ensures

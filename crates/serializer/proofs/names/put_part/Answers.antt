@@ -1,8 +1,8 @@
 -- Assumes nothing.
 use Rattle.std.proofs.Common.{sym, ap}
 use Rattle.text.specs.Emit.{lit}
-use Rattle.text.proofs.Seq.{wrote-is}
+use Rattle.text.proofs.Seq.{writes-is}
 use Rattle.serializer.proofs.names.put_part.Goals as goal
 
 pub returns : goal.returns
-returns c = wrote-is (ap lit (sym c.part_of.ensures)) c.put_bytes.ensures
+returns c = writes-is (ap lit (sym c.part_of.ensures)) c.put_bytes.ensures

@@ -1,6 +1,6 @@
 -- Assumes nothing.
 use Rattle.std.proofs.Common.{ne_eqb}
-use Rattle.text.proofs.Seq.{wrote_none}
+use Rattle.text.proofs.Seq.{writes-none}
 use Rattle.serializer.specs.Serializer.{write_closing}
 use Rattle.serializer.proofs.types.put_closing.Goals as goal
 
@@ -18,4 +18,4 @@ returns-in-31 c = rw c.in-31.is c.put-in-31.ensures
 
 pub returns-in_default : goal.returns-in_default
 unfolding write_closing
-returns-in_default c = rw (ne_eqb _ _ c.in_default.in_default-own.rest.1, ne_eqb _ _ c.in_default.in_default-own.rest.0.1, ne_eqb _ _ c.in_default.in_default-own.rest.0.0.1) (wrote_none _ _)
+returns-in_default c = rw (ne_eqb _ _ c.in_default.in_default-own.rest.1, ne_eqb _ _ c.in_default.in_default-own.rest.0.1, ne_eqb _ _ c.in_default.in_default-own.rest.0.0.1) writes-none

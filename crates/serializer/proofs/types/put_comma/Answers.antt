@@ -1,13 +1,13 @@
 -- Assumes nothing.
-use Rattle.std.proofs.Common.{eq-eqb, ne_eqb}
-use Rattle.text.proofs.Seq.{wrote-seq, wrote_none}
+use Rattle.std.proofs.Common.{sym, ◌∙◌}
+use Rattle.text.proofs.Seq.{writes-seq, writes-none}
 use Rattle.serializer.specs.Serializer.{comma}
 use Rattle.serializer.proofs.types.put_comma.Goals as goal
 
-pub returns-then-flags-eq1 : goal.returns-then-flags-eq1
+pub returns-then-has : goal.returns-then-has
 unfolding comma
-returns-then-flags-eq1 c = rw (eq-eqb _ _ c.if-flags-eq1.true) (wrote-seq c.put-o1.ensures c.put.ensures)
+returns-then-has c = rw (sym c.has.ensures ∙ c.if-has.true) (writes-seq c.put.ensures c.put-then-has.ensures)
 
-pub returns : goal.returns
+pub returns-else-has : goal.returns-else-has
 unfolding comma
-returns c = rw (ne_eqb _ _ c.if-flags-eq1.false) (wrote-seq c.put-o1.ensures (wrote_none _ _))
+returns-else-has c = rw (sym c.has.ensures ∙ c.if-has.false) (writes-seq c.put.ensures writes-none)

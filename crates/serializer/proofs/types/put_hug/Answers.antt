@@ -1,18 +1,18 @@
 -- Assumes nothing.
-use Rattle.std.proofs.Common.{eq-eqb, ne_eqb}
+use Rattle.std.proofs.Common.{sym, ◌∙◌}
 use Rattle.text.specs.Spaces.{write_space, write_space_ptr, asks_by}
-use Rattle.text.proofs.Seq.{wrote_none}
+use Rattle.text.proofs.Seq.{writes-none}
 use Rattle.serializer.specs.Serializer.{write_hug}
 use Rattle.serializer.proofs.types.put_hug.Goals as goal
 
-pub returns-then-flags-eq1-2 : goal.returns-then-flags-eq1-2
-unfolding write_hug write_space_ptr asks_by
-returns-then-flags-eq1-2 c = rw (eq-eqb _ _ c.if-flags-eq1.true, eq-eqb _ _ c.if-flags-eq1-2.true) c.put_space.ensures
-
-pub returns-then-flags-eq1 : goal.returns-then-flags-eq1
-unfolding write_hug
-returns-then-flags-eq1 c = rw (eq-eqb _ _ c.if-flags-eq1.true, ne_eqb _ _ c.if-flags-eq1-2.false) (wrote_none _ _)
-
-pub returns : goal.returns
+pub returns-then-not-has : goal.returns-then-not-has
 unfolding write_hug write_space asks_by
-returns c = rw (ne_eqb _ _ c.if-flags-eq1.false) c.put_space-2.ensures
+returns-then-not-has c = rw (sym c.has.ensures ∙ c.if-not-has.true) c.put_space.ensures
+
+pub returns-then-has : goal.returns-then-has
+unfolding write_hug write_space_ptr asks_by
+returns-then-has c = rw (sym c.has.ensures ∙ c.if-not-has.false, sym c.has-else-not-has.ensures ∙ c.if-has.true) c.put_space-then-has.ensures
+
+pub returns-else-has : goal.returns-else-has
+unfolding write_hug
+returns-else-has c = rw (sym c.has.ensures ∙ c.if-not-has.false, sym c.has-else-not-has.ensures ∙ c.if-has.false) writes-none

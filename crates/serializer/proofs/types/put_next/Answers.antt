@@ -1,8 +1,8 @@
 -- Assumes nothing.
-use Rattle.text.proofs.Seq.{wrote-seq}
+use Rattle.text.proofs.Seq.{writes-seq}
 use Rattle.serializer.specs.Serializer.{write_next}
 use Rattle.serializer.proofs.types.put_next.Goals as goal
 
 pub returns : goal.returns
 unfolding write_next
-returns c = wrote-seq c.put_comma-o1.ensures c.put_decimal.ensures
+returns c = writes-seq c.put_comma.ensures c.put_decimal.ensures

@@ -8,10 +8,10 @@ not_is : (t : Bool) → not t ≡ pick t false true
 not_is true = refl
 not_is false = refl
 
-pub returns-then-l-eq32 : goal.returns-then-l-eq32
+pub returns-then-l-ne32 : goal.returns-then-l-ne32
 unfolding not_set
-returns-then-l-eq32 c = rw c.if-l-eq32.true
+returns-then-l-ne32 c = rw (ne_eqb _ _ c.if-l-ne32.true) (not_is (eqb c.args.l 40))
 
-pub returns-else-l-eq32 : goal.returns-else-l-eq32
+pub returns-else-l-ne32 : goal.returns-else-l-ne32
 unfolding not_set
-returns-else-l-eq32 c = rw (ne_eqb _ _ c.if-l-eq32.false) (not_is (eqb c.args.l 40))
+returns-else-l-ne32 c = rw c.if-l-ne32.false
