@@ -67,7 +67,8 @@ fn same_string(a: &[u8], b: &[u8]) -> bool
     }
 }
 
-// What the first two numbers of a kind are: numbers, or a start and a length in the symbol, of bytes or of an encoded string.
+// What the first two numbers of a kind are: numbers, or a start and a length in the symbol,
+// of bytes or of an encoded string.
 #[derive(Clone, Copy)]
 enum Content {
     Numbers,
@@ -88,6 +89,7 @@ fn content_of(kind: u32) -> Content
 }
 
 // Two nodes that the table has. So their cells are read without asking again.
+// `c < 12` stays a clause: it is the bound of an index, and a type for a cell of a node would be no plainer.
 #[derive(Clone, Copy)]
 struct Pair<'a> {
     table: &'a [u32],
@@ -294,6 +296,7 @@ pub enum Unequal {
 }
 
 // Two references, each to a node that the table has, or to none.
+// What the links say stays a clause: `same_linked` is lent them for several questions, and promises it to its caller.
 #[derive(Clone, Copy)]
 struct Refs<'a> {
     table: &'a [u32],
@@ -501,7 +504,8 @@ fn told(same: bool, left: usize) -> Result<usize, Unequal>
     if same { Ok(left) } else { Err(Unequal::Differ) }
 }
 
-// Whether r and q mean the same, within a budget: if so, what is left of it. Most that are asked for differ in what they hold.
+// Whether r and q mean the same, within a budget: if so, what is left of it.
+// Most that are asked for differ in what they hold themselves.
 pub fn judge(
     table: &[u32],
     symbol: &[u8],

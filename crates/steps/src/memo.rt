@@ -86,8 +86,9 @@ fn sought_linked(front: &[u32], s: &[u8], entries: &[u16], n: u16) -> bool
     sought_over(front, s, entries, &mut links, n)
 }
 
-// The same of the entries from a place on, within a budget for each. Where it is spent for one, others come first: one may be told at once.
-// The outermost call answers with links. A caller would get their array into its frame; this calls itself, and does not.
+// The same of the entries from a place on, within a budget for each. Where it is spent for one, others come first:
+// one may be told at once. The outermost call, from 0 on, answers with links.
+// A caller would get their array into its frame; this calls itself, and does not.
 fn sought(front: &[u32], s: &[u8], entries: &[u16], from: usize, n: u16) -> Result<(), Unequal>
     ensures { Judged (any_of (same_in front.now s.now n) (drop from entries.now)) result × (from ≡ 0 → result ≡ Err Spent → ⊥) }
 {
