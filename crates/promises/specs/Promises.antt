@@ -2,15 +2,13 @@
 -- with its words above it. `Promises`, at the end, is all of them, and a function of src/lib.rt is proved only where each has a proof.
 -- `f` is the flag word, `depth` the depth budget, `s` the symbol, `t` the table, `b` the text buffer and `room` its length; a prime marks a second call's.
 -- Assumes nothing: these are definitions.
-use Rattle.std.specs.Prelude.{ℕ, suc, ◌+◌, ◌-◌, ◌*◌, ◌/◌, ◌%◌, ◌^◌, ◌≤◌, ◌<◌, Bool, true, false, ◌≡◌, List, [], ◌∷◌, ◌++◌, ◌↔◌, ◌⊎◌, eqb, length, take, drop, get_or, replicate, Ok, Err}
+use Rattle.std.specs.Prelude.{ℕ, suc, ◌+◌, ◌-◌, ◌*◌, ◌/◌, ◌%◌, ◌^◌, ◌≤◌, ◌<◌, Bool, true, false, ◌≡◌, List, [], ◌∷◌, ◌++◌, ◌↔◌, ◌⊎◌, eqb, length, take, drop, get_or, replicate, Some, Ok, Err}
 use Prim.Native.Char.{code}
 use Rattle.scan.specs.Bytes.{bytes, starts, is_digit}
 use Rattle.scan.specs.Number.{read_number}
 use Rattle.scan.specs.Name.{read_hex_digits}
 use Rattle.scan.specs.Cases.{NumberCases}
-use Rattle.scan.specs.declared.cursor.Leaf.TheVariants.{Value, Bad}
 use Rattle.forms.specs.Types.{type_reference}
-use Rattle.forms.specs.declared.types.Reference.TheVariants.{Stored}
 use Rattle.node.specs.Cells.{nodes, cell_of, KIND, Q}
 use Rattle.node.specs.Kind.{NamePlace, TypePlace, AnonymousId, Anonymous, Ref, RValueRef, kind_number}
 use Rattle.meaning.specs.Tree.{Tree, node, bytes_of}
@@ -209,9 +207,9 @@ OnePart = (s t : List ℕ) (n : ℕ) (p₁ t₁ p₂ t₂ : List ℕ) → Parts 
 -- and with the byte that stands there no bytes behind it make one. (`r` is what remains of the symbol where the number is read.)
 abbrev pub BadDigits : Type 0
 BadDigits =
-    (r : List ℕ) (n : ℕ) → read_number r ≡ Bad n →
-    ((v : ℕ) × (read_number (take n r ++ bytes "@") ≡ Value v (n + 1)))
-    × ((n ≡ length r) ⊎ ((n < length r) × ((t : List ℕ) → read_number (take (n + 1) r ++ t) ≡ Bad n)))
+    (r : List ℕ) (n : ℕ) → read_number r ≡ Err n →
+    ((v : ℕ) × (read_number (take n r ++ bytes "@") ≡ Ok (v, n + 1)))
+    × ((n ≡ length r) ⊎ ((n < length r) × ((t : List ℕ) → read_number (take (n + 1) r ++ t) ≡ Err n)))
 
 -- LEFT BEHIND
 
@@ -308,7 +306,7 @@ module _ (T : Type 0) (s : List ℕ) (same : Same T) (shut : Shut T) (rec : Part
     pub unqualified : (function : Bool) → RecallsName (unqualified_name function) (λ e. ret (e, false))
     pub nested : RecallsName nested_name ret
     pub type : (sc : ℕ) → RecallsType (var_type sc) ret
-    pub spelled : (sc i n : ℕ) (st : State) (t : T) → type_reference (drop st.at s) ≡ Stored i n → Recalls st.memo.types st.memo.types_len i n (var_type sc) ret st t
+    pub spelled : (sc i n : ℕ) (st : State) (t : T) → type_reference (drop st.at s) ≡ Some (i, n) → Recalls st.memo.types st.memo.types_len i n (var_type sc) ret st t
     pub scope : (turns last : ℕ) → RecallsName (scope_from (suc turns) last) (λ e. place NamePlace e last >>= scope_from turns)
     pub params : (turns last : ℕ) → RecallsType (params_from (suc turns) last) (λ e. place TypePlace e last >>= params_from turns)
 
