@@ -1,7 +1,7 @@
 -- The ends of productions, and parts of a program that is no tag's. Assumes nothing: these are definitions.
 use Rattle.std.specs.Prelude.{ℕ, zero, suc, ◌-◌, ◌≡◌, List, [], ◌∷◌, Bool, true, false, length, drop, leb, ltb, Result}
 use Rattle.scan.specs.Bytes.{pick, bytes, starts}
-use Rattle.grammar.specs.Program.{ret, fail, look, when, skip, part, node, found, refused, Out, out}
+use Rattle.grammar.specs.Program.{ret, fail, look, when, skip, part, node, refused, Out, out}
 use Rattle.grammar.specs.Counts.{opened}
 use Rattle.grammar.specs.Words.{◌>>=◌, ◌>>◌, ◌↝◌∥◌, here, memorize_name, memorize_type}
 use Rattle.node.specs.Kind.{NamePlace, TypePlace, Array}

@@ -107,7 +107,8 @@ pub fn read_func_class(s: &[u8], at: usize) -> Leaf
     }
 }
 
-// A letter of StorageClass: const, volatile and far are its lowest bits.
+// A letter of StorageClass: const, volatile and far are its lowest bits. `qualifier` has fewer: the crate has two lists,
+// each read by a match that mirrors it. The arms have literals, as those of forms, and for the reason in its start.rt.
 fn storage_class(c: u8) -> Class
     ensures { (rest : List ℕ) → result ≡ read_storage_class (c ∷ rest) }
 {

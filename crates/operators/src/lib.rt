@@ -27,7 +27,7 @@ pub const RTTI_TYPE_DESCRIPTOR: u32 = 75;
 
 pub const RTTI_BASE_CLASS_DESCRIPTOR: u32 = 76;
 
-// `?x`
+// `?x`: here and below one match on the byte for each group of letters, the form in which the scope has them.
 fn operator(c: u8) -> Leaf
     requires { c ≡ 95 → ⊥ }
     ensures { (rest : List ℕ) → result ≡ read_operator (c ∷ rest) }

@@ -20,7 +20,7 @@ use Rattle.forms.specs.declared.begins.ParseForm.TheVariants as parse
 use Rattle.forms.specs.declared.begins.SymbolForm.{SymbolForm}
 use Rattle.forms.specs.declared.begins.NameForm.{NameForm}
 use Rattle.forms.specs.declared.begins.NameForm.TheVariants as name
-use Rattle.grammar.specs.Program.{fail, node, ret, run, at+}
+use Rattle.grammar.specs.Program.{run, at+}
 use Rattle.grammar.specs.Words.{ordered, at_end, hex_digits}
 use Rattle.node.specs.Kind.{None}
 use Rattle.grammar.specs.Table.{shut_table, same_table, read_table}
@@ -30,8 +30,8 @@ use Rattle.grammar.specs.declared.Refusal.TheVariants.{Syntax}
 use Rattle.grammar.proofs.Ordered.{no_bytes}
 use Rattle.grammar.proofs.Funded.{true-false}
 use Rattle.steps.specs.Does.{runs, Values, Leads}
-use Rattle.steps.proofs.Leads.{leads-ret, leads-look, leads-when, leads-else, leads-met, leads-ordered}
-use Rattle.shapes.specs.Shapes.{name_form_of, shape_name, shape_symbol}
+use Rattle.steps.proofs.Leads.{leads-look, leads-when, leads-else, leads-ordered}
+use Rattle.shapes.specs.Shapes.{name_form_of, shape_symbol}
 use Rattle.shapes.specs.declared.symbols.SymbolShape.TheVariants as symbols
 
 -- no bytes are taken

@@ -7,7 +7,7 @@ use native.Mathlib.Omega.{arith}
 use lib.ListN.{length}
 use lib.Dec.{eqb}
 use borrow.Author.Tests.{le-leb, lt-leb, ne_eqb}
-use Rattle.std.specs.Prelude.{Result, Ok, Err}
+use Rattle.std.specs.Prelude.{Result, Ok}
 use Rattle.grammar.specs.Program.{ret, when, sub, node, run}
 use Rattle.grammar.specs.Words.{unsigned, memorize_name}
 use Rattle.node.specs.Kind.{Operator}

@@ -77,11 +77,7 @@ fn function_rest(r: Reader, st: &mut State, class: u32) -> Result<Signature, Ref
 pub fn function_head(r: Reader, st: &mut State, qualifiers: bool) -> Result<Signature, Refusal>
     ensures { Leads r.entry.s.now (func_type qualifiers) st.old tail_of result st.new }
 {
-    let class = if qualifiers {
-        r.func_qualifiers(st)
-    } else {
-        0
-    };
+    let class = if qualifiers { r.func_qualifiers(st) } else { 0 };
     function_rest(r, st, class)
 }
 
@@ -156,5 +152,12 @@ pub fn pointer_head(
         return conventions(r, st, Signature { class, ..pointer });
     }
     let func_class = r.func_class(st)?;
-    conventions(r, st, Signature { func_class, ..pointer })
+    conventions(
+        r,
+        st,
+        Signature {
+            func_class,
+            ..pointer
+        },
+    )
 }

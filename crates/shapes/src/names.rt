@@ -29,12 +29,7 @@ fn plain_shape(r: Reader, st: &mut State) -> Result<NameShape, Refusal>
 {
     let from = u32::from(st.at);
     let n = r.string(st)?;
-    Ok(NameShape::Leaf(
-        kinds::NON_TEMPLATE,
-        from,
-        n.saturating_sub(1),
-        true,
-    ))
+    Ok(NameShape::Leaf(kinds::NON_TEMPLATE, from, n.saturating_sub(1), true))
 }
 
 // A namespace by its id. Without a digit two could not be told apart.
@@ -69,12 +64,7 @@ fn interface(r: Reader, st: &mut State) -> Result<NameShape, Refusal>
     let from = u32::from(st.at);
     let n = r.string(st)?;
     r.expect(st, b"@")?;
-    Ok(NameShape::Leaf(
-        kinds::AS_INTERFACE,
-        from,
-        n.saturating_sub(1),
-        true,
-    ))
+    Ok(NameShape::Leaf(kinds::AS_INTERFACE, from, n.saturating_sub(1), true))
 }
 
 fn discriminator(r: Reader, st: &mut State) -> Result<NameShape, Refusal>
@@ -130,12 +120,7 @@ fn base_descriptor(r: Reader, st: &mut State) -> Result<SpecialShape, Refusal>
     let vbptr_offset = r.number(st)?;
     let vbtable_offset = r.number(st)?;
     let flags = r.number(st)?;
-    Ok(SpecialShape::Base(
-        nv_offset,
-        vbptr_offset,
-        vbtable_offset,
-        flags,
-    ))
+    Ok(SpecialShape::Base(nv_offset, vbptr_offset, vbtable_offset, flags))
 }
 
 // read_special_name, up to its first part.

@@ -42,10 +42,7 @@ fn parameter(r: Reader, st: &mut State) -> Result<Shape, Refusal>
     ensures { Leads r.entry.s.now (letter_type 0 Parameter) st.old shape_type result st.new }
 {
     let n = r.number(st)?;
-    Ok(Shape::Leaf(
-        kinds::TEMPLATE_PARAMETER_WITH_INDEX,
-        n.wrapping_neg(),
-    ))
+    Ok(Shape::Leaf(kinds::TEMPLATE_PARAMETER_WITH_INDEX, n.wrapping_neg()))
 }
 
 fn letter_shape(r: Reader, st: &mut State, l: TypeLetter, sc: u32) -> Result<Shape, Refusal>
@@ -117,7 +114,7 @@ fn form_shape(r: Reader, st: &mut State, f: TypeForm, sc: u32) -> Result<Shape, 
     }
 }
 
-// read_var_type, up to its first part.
+// read_var_type, up to its first part. Names and symbols have the same three lines, each over its own forms.
 pub fn type_shape(r: Reader, st: &mut State, sc: u32) -> Result<Shape, Refusal>
     ensures { Leads r.entry.s.now (var_type_body sc) st.old shape_type result st.new }
 {

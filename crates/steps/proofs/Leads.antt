@@ -8,7 +8,7 @@ use mathlib.Core.Bool.{Bool, true, false}
 use lib.Dec.{leb}
 use lib.ListN.{length, drop}
 use Rattle.std.specs.Prelude.{Result, Ok, Err}
-use Rattle.scan.specs.Bytes.{pick, bytes, starts, spelled}
+use Rattle.scan.specs.Bytes.{pick, bytes, spelled}
 use Rattle.grammar.specs.Program.{ret, fail, look, when, sub, node, found, refused, Reply, Out, onward, run, at+}
 use Rattle.grammar.specs.Words.{◌⇒◌∥◌, here, ordered}
 use Rattle.grammar.specs.Table.{laid, same_table, shut_table, read_table}
@@ -17,7 +17,7 @@ use Rattle.grammar.specs.declared.State.{State}
 use Rattle.grammar.specs.declared.Refusal.{Refusal}
 use Rattle.grammar.specs.declared.Refusal.TheVariants.{Syntax}
 use Rattle.grammar.proofs.Ordered.{none, chosen, ordered-decided}
-use Rattle.steps.specs.Does.{runs, goes_on, Values, Meets, Leads}
+use Rattle.steps.specs.Does.{runs, Values, Meets, Leads}
 use Rattle.steps.proofs.Laws.{runs-closing}
 
 module _ {s : List ℕ} {A X : Type 0} {k : X → Reading A} where

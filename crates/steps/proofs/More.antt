@@ -6,7 +6,7 @@ use mathlib.Core.List.{List}
 use mathlib.Core.Bool.{Bool, true, false}
 use native.Mathlib.Omega.{arith}
 use Rattle.std.specs.Prelude.{Result, Ok, Err}
-use Rattle.grammar.specs.Program.{ret, when, part, sub, found, refused, Reply, Out, out, onward, run, with}
+use Rattle.grammar.specs.Program.{ret, when, part, sub, found, refused, Reply, Out, onward, run, with}
 use Rattle.grammar.specs.Words.{here, memo, set_memo, refuse_if}
 use Rattle.grammar.specs.Grammar.{Dimension, Reading, nested_array, element}
 use Rattle.grammar.specs.declared.Memo.{Memo}

@@ -1,5 +1,5 @@
 -- What the functions of a reading promise, by the programs that they follow. Assumes nothing: these are definitions.
-use Rattle.std.specs.Prelude.{ℕ, zero, suc, ◌+◌, ◌-◌, ◌<◌, max, ◌≡◌, List, [], ◌∷◌, Bool, length, drop, take, set, get_or, leb, ltb, Option, Some, None, Result, Ok, Err}
+use Rattle.std.specs.Prelude.{ℕ, zero, suc, ◌+◌, ◌-◌, ◌<◌, ◌≡◌, List, [], ◌∷◌, Bool, length, drop, take, set, get_or, leb, ltb, Option, Some, None, Result, Ok, Err}
 use Prim.Native.Char.{code}
 use Rattle.scan.specs.Bytes.{pick, starts, is_digit}
 use Rattle.scan.specs.Cursor.{Leaf, Span}

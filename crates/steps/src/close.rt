@@ -90,7 +90,17 @@ impl Reader<'_> {
     ) -> Result<u16, Refusal>
         ensures { Shuts self.entry (laid kind 0 (p ∷ q ∷ []) []) st.old t.old result st.new t.new }
     {
-        self.lay(t, st, Node { kind, p, q, ..BLANK }, 0)
+        self.lay(
+            t,
+            st,
+            Node {
+                kind,
+                p,
+                q,
+                ..BLANK
+            },
+            0,
+        )
     }
 
     // A node above another one.
@@ -106,7 +116,17 @@ impl Reader<'_> {
         ensures { Shuts self.entry (laid kind 0 (p ∷ q ∷ []) (to n ∷ [])) st.old t.old result st.new t.new }
     {
         let a = to(n);
-        self.shut(t, st, Node { kind, a, p, q, ..BLANK })
+        self.shut(
+            t,
+            st,
+            Node {
+                kind,
+                a,
+                p,
+                q,
+                ..BLANK
+            },
+        )
     }
 
     // A place behind the last one of a list, for an entry: the answer is the reference to it.
@@ -122,7 +142,16 @@ impl Reader<'_> {
     {
         let a = u32::from(last);
         let b = to(entry);
-        let p = self.shut(t, st, Node { kind, a, b, ..BLANK })?;
+        let p = self.shut(
+            t,
+            st,
+            Node {
+                kind,
+                a,
+                b,
+                ..BLANK
+            },
+        )?;
         Ok(p + 1)
     }
 }

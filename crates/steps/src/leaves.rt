@@ -31,6 +31,7 @@ fn take_leaf(st: &mut State, l: Leaf) -> Result<u32, Refusal>
     }
 }
 
+// The value of a span is what it took: another definition than a leaf's, and no closure between them.
 fn take_span(st: &mut State, l: Span) -> Result<u32, Refusal>
     requires { SpanRoom st.old.at l }
     ensures { (result, st.new) ≡ took_span l st.old }
@@ -55,6 +56,7 @@ fn take_class(st: &mut State, c: Class) -> u32
     c.bits
 }
 
+// Each leaf by the name of the crate's reader: what they differ in, the leaf itself, is what their promises say.
 impl Reader<'_> {
     pub fn number(self, st: &mut State) -> Result<u32, Refusal>
         ensures { Values self.entry.s.now number st.old result st.new }
@@ -71,10 +73,7 @@ impl Reader<'_> {
     pub fn guard_number(self, st: &mut State) -> Result<u32, Refusal>
         ensures { Values self.entry.s.now (leaf read_guard_number) st.old result st.new }
     {
-        take_leaf(
-            st,
-            scan::number::read_guard_number(self.s, st.at as usize),
-        )
+        take_leaf(st, scan::number::read_guard_number(self.s, st.at as usize))
     }
 
     pub fn calling_conv(self, st: &mut State) -> Result<u32, Refusal>

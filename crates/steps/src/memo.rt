@@ -38,6 +38,7 @@ fn stored(entries: Entries, len: u8, i: u32) -> Result<u16, Refusal>
     Ok(if k < ENTRIES { entries[k] } else { 0 })
 }
 
+// Each half of the memo by its name, here and where one more is stored, as in the crate: `stored` and `add` do both.
 pub fn name_of(st: &State, i: u32) -> Result<u16, Refusal>
     ensures { Finds (name_of i) st.now result }
 {

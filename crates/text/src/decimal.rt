@@ -53,6 +53,7 @@ impl Buffer<'_> {
     }
 
     // A u32.
+    #[tactic(auto, unfolding(crate::specs::Decimal::unsigned))]
     pub fn put_unsigned(&mut self, n: u32)
         ensures { Writes (lit (unsigned n)) self.old self.new }
     {

@@ -15,30 +15,28 @@ pub enum Spacing {
     Close,
 }
 
+#[tactic(auto, unfolding(crate::specs::Spaces::after_ptr))]
 fn is_after_ptr(l: u32) -> bool
     ensures { result ≡ after_ptr l }
 {
-    match l {
-        65..=90 => true,
-        97..=122 => true,
-        62 => true,
-        41 => true,
-        _ => false,
-    }
+    matches!(l, 65..=90 | 97..=122 | 62 | 41)
 }
 
+#[tactic(auto, unfolding(crate::specs::Spaces::after_pre, crate::specs::Spaces::after_ptr))]
 fn is_after_pre(l: u32) -> bool
     ensures { result ≡ after_pre l }
 {
     l == 38 || is_after_ptr(l)
 }
 
+#[tactic(auto, unfolding(crate::specs::Spaces::after_any, crate::specs::Spaces::after_pre))]
 fn is_after_any(l: u32) -> bool
     ensures { result ≡ after_any l }
 {
     l == 42 || is_after_pre(l)
 }
 
+#[tactic(auto, unfolding(crate::specs::Spaces::not_set))]
 fn is_not_set(l: u32) -> bool
     ensures { result ≡ not_set l }
 {
@@ -47,6 +45,7 @@ fn is_not_set(l: u32) -> bool
 
 impl Spacing {
     // Whether a space is asked for after the last byte l.
+    #[tactic(auto, unfolding(crate::specs::Spaces::after_close, crate::specs::Spaces::asks_by))]
     fn is_asked(self, l: u32) -> bool
         ensures { result ≡ asks_by self l }
     {

@@ -393,7 +393,7 @@ impl Source<'_> {
         self.one(text, first_entry(self.table, b));
     }
 
-    // The scope's first name, as a destructor.
+    // The scope's first name, as a destructor: an arm of its own in the crate, and so a promise of its own.
     #[cycle(writers)]
     fn destructor(&self, text: &mut Buffer, b: usize)
         ensures { Writes (pick (is_empty (tree_at self.now b)) (put "[invalid]") (put "~" ⨾ write_first self.now.flags (tree_at self.now b))) text.old text.new }

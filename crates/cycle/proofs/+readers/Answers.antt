@@ -8,7 +8,7 @@ use native.Mathlib.Omega.{arith}
 use Rattle.std.specs.Prelude.{Ok}
 use Rattle.grammar.specs.Words.{name_of}
 use Rattle.grammar.specs.Grammar.{array, body, Dimension, Func, dimensions, element, NoParams, func_params, member_function_pointer, name_body, stored_param, new_param, parse_of, GuardType, pointee, NoReturn, func_return_type, template_name, stored}
-use Rattle.steps.proofs.Laws.{handed, does-ret, does-sub, sub-refused, does-part, does-finds, does-keeps, does-value, value-bad, values-expect, on-there, on-absent, on-digit, no_digit, on-reference, no-reference, opens-less, reads-deep, reads-body, closes}
+use Rattle.steps.proofs.Laws.{handed, does-ret, does-sub, sub-refused, does-part, does-finds, does-keeps, does-value, value-bad, values-expect, on-there, on-absent, on-digit, no_digit, on-reference, no-reference, reads-deep, reads-body, closes}
 use Rattle.steps.proofs.More.{does-as, does-leads, leads-refused, does-here, does-memo, does-set, does-inner, does-given, does-chosen, does-other, does-refuse, does-pass, nested-last, nested-more}
 use Rattle.ends.proofs.Parts.{reads-opens}
 use Rattle.ends.proofs.Lists.{params-starts, params-ends, params-goes, params-out, scope-starts, scope_ends, scope-goes, scope-out}

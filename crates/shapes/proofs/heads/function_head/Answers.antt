@@ -9,8 +9,8 @@ use Rattle.shapes.proofs.heads.function_head.Goals as goal
 
 pub returns : goal.returns
 unfolding func_type
-returns c = 
+returns c =
     elim c.if-qualifiers.branch [
-      then-qualifiers w ↦ leads-value (rw (w.class-is, w.st-is) (values-when w.if-qualifiers.true w.func_qualifiers-class.ensures)) refl c.function_rest.ensures
-    | else-qualifiers w ↦ leads-value (rw (w.class-is, w.st-is) (values-else w.if-qualifiers.false values-ret)) refl c.function_rest.ensures
+      | then-qualifiers w ↦ leads-value (rw (w.class-is, w.st-is) (values-when w.if-qualifiers.true w.func_qualifiers-class.ensures)) refl c.function_rest.ensures
+      | else-qualifiers w ↦ leads-value (rw (w.class-is, w.st-is) (values-else w.if-qualifiers.false values-ret)) refl c.function_rest.ensures
     ]

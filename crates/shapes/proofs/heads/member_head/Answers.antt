@@ -15,8 +15,8 @@ returns-in_err-func_class c = leads-bad c.func_class.ensures c.in_err-func_class
 
 pub returns : goal.returns
 unfolding member_function
-returns c = 
+returns c =
     leads-value c.func_class.ensures c.in_ok-func_class.was (elim c.if-is_static.branch [
-      then-is_static w ↦ leads-value (rw (w.class-is, w.st-is) (values-when (sym c.is_static.ensures ∙ w.if-is_static.true) values-ret)) refl (leads-alike (member_alike _ _) c.conventions.ensures)
-    | else-is_static w ↦ leads-value (rw (w.class-is, w.st-is) (values-else (sym c.is_static.ensures ∙ w.if-is_static.false) w.func_qualifiers-class.ensures)) refl (leads-alike (member_alike _ _) c.conventions.ensures)
+      | then-is_static w ↦ leads-value (rw (w.class-is, w.st-is) (values-when (sym c.is_static.ensures ∙ w.if-is_static.true) values-ret)) refl (leads-alike (member_alike _ _) c.conventions.ensures)
+      | else-is_static w ↦ leads-value (rw (w.class-is, w.st-is) (values-else (sym c.is_static.ensures ∙ w.if-is_static.false) w.func_qualifiers-class.ensures)) refl (leads-alike (member_alike _ _) c.conventions.ensures)
     ])

@@ -1,6 +1,6 @@
 use mathlib.Core.Path.{◌≡◌}
 use lib.ListN.{drop}
-use Rattle.meaning.specs.Tree.{tree_of, eq_tree}
+use Rattle.meaning.specs.Tree.{tree_of}
 use Rattle.meaning.specs.Links.{Links}
 use Rattle.grammar.specs.Program.{any_of}
 use Rattle.steps.specs.Does.{same_in}
