@@ -17,8 +17,8 @@
 //   otmpl, oname       the symbol of `?$`, and its name; oguard is the symbol of `?$TSS`
 //   sym, var           the symbol's own type, a variable
 //
-// They take the reader `r`, that is the symbol and the budgets of the reading; what is lent, the node table `t`; the state
-// `st`; and `depth`, how many more parts may open: of all limits it alone falls.
+// They take the reader `r`, that is the symbol and the budgets of the reading; what is lent, the node table `t`; the
+// state `st`; and `depth`, how many more parts may open: of all limits it alone falls.
 #![tactic(auto)]
 
 ghost use Rattle.std.specs.Prelude.{◌≡◌, ◌-◌, ◌+◌, true, eqb, length};
@@ -48,7 +48,7 @@ use shapes::names::{
 use shapes::symbols::{SymbolShape, guard_index, parse_form, symbol_shape};
 use shapes::types::{Shape, type_shape};
 use steps::close::{BLANK, to};
-use steps::memo::{aside, name_of, put_back, type_of};
+use steps::memo::{aside, memorize_name, name_of, put_back, type_of};
 use steps::reader::Reader;
 
 // One more than the bytes that are left: a list has no more entries.
@@ -441,7 +441,7 @@ fn unq(
         UnqualifiedShape::Template => {
             let n = tmpl(r, t, st, left)?;
             if !function {
-                r.memorize_name(t, st, n);
+                memorize_name(t, r.s, st, n);
             }
             Ok((n, false))
         }
@@ -510,7 +510,7 @@ fn nested(r: Reader, t: &mut [u32], st: &mut State, depth: u16) -> Result<u16, R
         }
         NameShape::Template => {
             let n = tmpl(r, t, st, left)?;
-            r.memorize_name(t, st, n);
+            memorize_name(t, r.s, st, n);
             Ok(n)
         }
         NameShape::Leaf(kind, p, q, stored) => leaf_name(r, t, st, kind, p, q, stored),

@@ -12,6 +12,7 @@ use grammar::{Refusal, State};
 use node::{Node, kinds};
 use operators::{LOCAL_STATIC_GUARD, LOCAL_STATIC_THREAD_GUARD};
 use steps::close::{BLANK, to};
+use steps::memo::{memorize_name, memorize_type};
 use steps::reader::Reader;
 
 // A name that refers to none, stored or not.
@@ -28,7 +29,7 @@ pub fn leaf_name(
 {
     let n = r.shut_leaf(t, st, kind, p, q)?;
     if stored {
-        r.memorize_name(t, st, n);
+        memorize_name(t, r.s, st, n);
     }
     Ok(n)
 }
@@ -160,7 +161,7 @@ pub fn param_end(
     ensures { (d : ℕ) → Does r.entry d (param_end from last n) st.old t.old result st.new t.new }
 {
     if (from as usize) + 1 < (st.at as usize) {
-        r.memorize_type(t, st, n);
+        memorize_type(t, r.s, st, n);
     }
     r.place(t, st, n, kinds::TYPE_PLACE, last)
 }

@@ -68,6 +68,7 @@ pub fn parse_start(s: &[u8], at: usize) -> Start<ParseForm>
     }
 }
 
+// A start for each letter, which the layout spreads over four lines.
 fn symbol_letter(c: u8) -> Start<SymbolForm>
     ensures { (rest : List ℕ) → result ≡ symbol_start (c ∷ rest) }
 {

@@ -6,7 +6,7 @@ ghost use Rattle.gates.specs.Gates.{known_flags, high_at, symbol_gate, gate};
 
 use scan::limits::{DEEPEST_READING, LONGEST_SYMBOL};
 
-// The gate that is closed: for the budgets, for the length of the symbol, or for a byte that is not ASCII, at its place.
+// The gate that is closed: for the budgets, for the length of the symbol, or for a byte that is not ASCII, and where.
 #[derive(Clone, Copy, Debug, PartialEq, Eq)]
 pub enum Closed {
     Call,

@@ -387,8 +387,6 @@ letter_type sc letter.ConstVolatilePtr = pointing Ptr (CONST + VOLATILE)
 letter_type sc letter.Array = array
 letter_type sc (letter.Basic k) = close (Basic k) (sc ∷ []) []
 
--- not reached: type_letters has no such entry, and plain_type's last choice is no_letter
-
 -- another letter is taken, and behind `_` the next one too
 abbrev pub no_letter : Reading ℕ
 no_letter = look λ s at. skip (up_to (pick (starts (bytes "_") (drop at s)) 2 1) (drop at s)) fail

@@ -57,7 +57,7 @@ pub record Joins (l l' : List ℕ) (x y : ℕ) : Type 0 where
 pub record Parts (l l' : List ℕ) (x y : ℕ) : Type 0 where
   pub holds : (f : ℕ → Tree) → Links f l → (f x ≡ f y → ⊥) → Links f l'
 
--- an answer within a budget: what differs is unequal, what is told to be the same is equal, and a spent budget says nothing
+-- an answer within a budget: what differs is unequal, what is the same is equal, and a spent budget says nothing
 pub record Judged {A : Type 0} (e : Bool) (v : Result A Unequal) : Type 0 where
   pub no : v ≡ Err Differ → e ≡ false
   pub yes : (x : A) → v ≡ Ok x → e ≡ true

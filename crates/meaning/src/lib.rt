@@ -1,7 +1,7 @@
 // What nodes mean, and whether two mean the same.
 #![tactic(auto)]
 
-ghost use Rattle.std.specs.Prelude.{◌≡◌, ℕ, ◌-◌, ◌≤◌, ◌<◌, ◌^◌, eqb, true, false, List};
+ghost use Rattle.std.specs.Prelude.{◌≡◌, ◌-◌, ◌≤◌, ◌<◌, ◌^◌, eqb, true, false};
 ghost use Rattle.node.specs.Cells as cells;
 ghost use Rattle.node.specs.Cells.{nodes, cell_of, KIND};
 ghost use Rattle.meaning.specs.Tree.{part, decoded, content_of, content_number, tree_of, kid_of, is_blank, eq_list, eq_tree, eq_content, eq_own, eq_numbers, eq_kids, eq_but_first};
@@ -33,7 +33,7 @@ pub fn part_of(symbol: &[u8], s: usize, n: usize) -> &[u8]
     &symbol[..0]
 }
 
-// Whether two encoded strings stand for the same bytes.
+// Whether two encoded strings stand for the same bytes: an arm, and a lemma, for each way that they end or differ.
 fn same_string(a: &[u8], b: &[u8]) -> bool
     ensures { result ≡ eq_list (decoded a.now) (decoded b.now) }
 {

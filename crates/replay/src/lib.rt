@@ -7,8 +7,8 @@ ghost use Rattle.replay.specs.Digits.{digit, number_of};
 use std::io;
 use std::io::{Read, Stdin};
 
-// Reads until the buffer is full or the input ends; how many bytes came. Nothing of the library does: `read_exact` fails
-// at a shorter input, and a `BufReader` is on the heap.
+// Reads until the buffer is full or the input ends; how many bytes came. Nothing of the library does: `read_exact`
+// fails at a shorter input, and a `BufReader` is on the heap.
 pub fn read_full(input: &mut Stdin, buffer: &mut [u8]) -> io::Result<usize>
     ensures { IfOk result (λ n. n ≤ length buffer.new) }
 {

@@ -20,7 +20,7 @@ abbrev pub with_digit : Option ℕ → (ℕ → Leaf) → Leaf → Leaf
 with_digit (Some d) f other = f d
 with_digit None f other = other
 
--- digits up to `@`: n bytes are taken and the value is v. High bits are dropped. Our readers of both kinds of digits are this one
+-- digits up to `@`: n bytes are taken and the value is v. High bits are dropped. Our readers of both kinds are this one
 unfoldable pub digits : ℕ → ℕ → ℕ → ℕ → List ℕ → Leaf
 digits low base n v [] = Err n
 digits low base n v (c ∷ r) =

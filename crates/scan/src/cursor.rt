@@ -1,5 +1,5 @@
 // The cursor: a byte, a literal, a digit.
-ghost use Rattle.std.specs.Prelude.{◌≡◌, List, ◌∷◌, ℕ, ◌<◌, drop};
+ghost use Rattle.std.specs.Prelude.{◌≡◌, ◌<◌, drop};
 ghost use Rattle.scan.specs.Bytes.{starts, is_digit, is_hex};
 ghost use Rattle.scan.specs.Cursor.{get_byte, expect_literal, read_digit, read_hex_digit};
 

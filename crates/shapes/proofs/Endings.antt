@@ -1,9 +1,8 @@
 -- The ends of names and of special names, and a guard's index. Assumes nothing.
-use Prim.Native.Nat.{ℕ, ◌-◌, ◌+◌, ◌≤◌, ◌<◌}
+use Prim.Native.Nat.{ℕ, ◌+◌, ◌≤◌, ◌<◌}
 use mathlib.Core.Path.{◌≡◌, refl, sym, ◌∙◌}
 use mathlib.Core.List.{List, [], ◌∷◌}
 use mathlib.Core.Bool.{Bool, true, false}
-use native.Mathlib.Omega.{arith}
 use lib.ListN.{length}
 use lib.Dec.{eqb}
 use borrow.Author.Tests.{le-leb, lt-leb, ne_eqb}
@@ -23,10 +22,6 @@ use Rattle.ends.specs.Ends.{leaf_name}
 use Rattle.shapes.specs.Shapes.{unguarded, shape_special}
 use Rattle.shapes.specs.declared.names.SpecialShape.{SpecialShape}
 use Rattle.shapes.specs.declared.names.SpecialShape.TheVariants as special
-
--- one less, twice
-pub less_two : (n : ℕ) → n - 1 - 1 ≡ n - 2
-less_two n = omega arith
 
 module _ {s : List ℕ} where
   -- a name that is stored, and one that isn't

@@ -1,4 +1,4 @@
--- The tails of the grammar's functions: they lay the same cells as a signature's tail does. The bits of a qualifier. Assumes nothing.
+-- The tails of the grammar's functions lay the same cells as a signature's tail. The bits of a qualifier. Assumes nothing.
 use Prim.Native.Nat.{ℕ, ◌≤◌}
 use mathlib.Core.Path.{◌≡◌, refl}
 use mathlib.Core.List.{List, [], ◌∷◌}

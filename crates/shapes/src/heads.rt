@@ -1,6 +1,6 @@
 // The head of a function's type: what stands before its return.
 ghost use Rattle.std.specs.Prelude.{◌≡◌, ◌≤◌, Ok};
-ghost use Rattle.grammar.specs.Grammar.{func_type, member_function, plain_function, member_pointer, is_static};
+ghost use Rattle.grammar.specs.Grammar.{func_type, member_function, member_pointer, is_static};
 ghost use Rattle.shapes.specs.declared.symbols.SymbolShape.TheVariants.{Function};
 ghost use Rattle.steps.specs.Does.{Values, Leads};
 ghost use Rattle.shapes.specs.Shapes.{shape_symbol, tail_of, conventions, function_rest, variable_class, ptr64_class};

@@ -206,9 +206,6 @@ pub at-none : (limit d : ℕ) (st : State) {g : Result ℕ Refusal} {st' : State
 at-none limit zero st e h = (refl, err-is (sym h ∙ ap (λ (y : Result ℕ Refusal × State). y.0) e), ap (λ (y : Result ℕ Refusal × State). y.1) e)
 at-none limit (suc d) st {why = why} e h = let k : ◌≡◌ {A = Result ℕ Refusal} (Err why) (Ok d) = sym h ∙ ap (λ (y : Result ℕ Refusal × State). y.0) e in cc
 
-pub opens-less : {r : Reader} {d left : ℕ} {g : Result ℕ Refusal} {st st' : State} → Opening r d st g st' → g ≡ Ok left → left < d
-opens-less {r} {d} {st = st} o e = let k = (at-some r.depth d st o.is e).0 in omega (arith, k)
-
 pub reads-deep :
     {r : Reader} {d : ℕ} {tag : Tag} {why : Refusal} {f : Result ℕ Refusal} {g : Result (Ans tag) Refusal} {st st' : State} {t : List ℕ} → Opening r d st f st' → f ≡ Err why → g ≡ Err why → Reads r d tag st t g st' t
 unfolding read_table

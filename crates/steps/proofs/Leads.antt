@@ -87,9 +87,6 @@ onward-alike (found b) st t f f' h = h b st t
 onward-alike (refused why) st t f f' h = refl
 
 module _ {s : List ℕ} where
-  pub alike-refl : {A : Type 0} {p : Reading A} → Alike s p p
-  alike-refl = record { is = λ limit room d st t. refl }
-
   pub alike-sub : {A B : Type 0} {p : Reading B} {k k' : B → Reading A} → ((b : B) → Alike s (k b) (k' b)) → Alike s (sub p k) (sub p k')
   unfolding run
   alike-sub {p = p} {k = k} {k' = k'} h =

@@ -1,4 +1,4 @@
--- More rules for readers: the place and the memo, answers with something beside them, programs in another order of brackets, and the dimensions of an array.
+-- More rules for readers: the place and the memo, programs in another order of brackets, the dimensions of an array.
 -- Assumes nothing.
 use Prim.Native.Nat.{ℕ, zero, suc, ◌-◌, ◌<◌, ◌≤◌}
 use mathlib.Core.Path.{◌≡◌, refl, sym, ap, ◌∙◌}

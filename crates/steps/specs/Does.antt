@@ -32,7 +32,7 @@ replied (Err why) = refused why
 abbrev pub runs : {A : Type 0} → List ℕ → ℕ → ℕ → ℕ → Reading A → State → List ℕ → Out A (List ℕ)
 runs s limit room d p st t = run s (same_table s) (shut_table limit room) (read_table body s limit room d) p st t
 
--- a reader's promise: its answer, and the state and the table that it leaves, are what the program, or the part, gives from those that it finds
+-- a reader's promise: its answer, and the state and the table that it leaves, are what the program, or the part, gives
 pub record Does {A : Type 0} (r : Reader) (d : ℕ) (p : Reading A) (st : State) (t : List ℕ) (g : Result A Refusal) (st' : State) (t' : List ℕ) : Type 0 where
   pub is : out (replied g) st' t' ≡ runs r.s.now r.depth r.room d p st t
 

@@ -1,5 +1,5 @@
 // Closing a node: its height against the limit, then the room, then its cells.
-ghost use Rattle.std.specs.Prelude.{◌≡◌, List, [], ◌∷◌, ℕ, ◌+◌, ◌<◌, ◌^◌, IfOk};
+ghost use Rattle.std.specs.Prelude.{◌≡◌, [], ◌∷◌, ℕ, ◌+◌, ◌<◌, ◌^◌, IfOk};
 ghost use Rattle.grammar.specs.Table.{laid, tallest_in};
 ghost use Rattle.grammar.specs.Grammar.{to};
 ghost use Rattle.steps.specs.Does.{Does, Puts, Lays, Shuts, place_of};

@@ -10,7 +10,6 @@ ghost use Rattle.grammar.specs.Words.{name_of, type_of};
 ghost use Rattle.grammar.specs.Table.{counted};
 ghost use Rattle.steps.specs.Does.{same_in, Finds, Adds, Keeps, stored_at};
 
-use crate::reader::Reader;
 use grammar::{ENTRIES, Entries, Memo, Refusal, State};
 use meaning::links::LINKS;
 use meaning::{Unequal, VISITS};
@@ -161,18 +160,16 @@ pub fn put_back(st: &mut State, outer: Memo)
     st.memo = outer;
 }
 
-impl Reader<'_> {
-    pub fn memorize_name(self, t: &[u32], st: &mut State, n: u16)
-        ensures { Keeps self.entry.s.now store.names n t.now st.old st.new }
-    {
-        let memo = &mut st.memo;
-        add(t, self.s, st.used, &mut memo.names, &mut memo.names_len, n);
-    }
+pub fn memorize_name(t: &[u32], s: &[u8], st: &mut State, n: u16)
+    ensures { Keeps s.now store.names n t.now st.old st.new }
+{
+    let memo = &mut st.memo;
+    add(t, s, st.used, &mut memo.names, &mut memo.names_len, n);
+}
 
-    pub fn memorize_type(self, t: &[u32], st: &mut State, n: u16)
-        ensures { Keeps self.entry.s.now store.types n t.now st.old st.new }
-    {
-        let memo = &mut st.memo;
-        add(t, self.s, st.used, &mut memo.types, &mut memo.types_len, n);
-    }
+pub fn memorize_type(t: &[u32], s: &[u8], st: &mut State, n: u16)
+    ensures { Keeps s.now store.types n t.now st.old st.new }
+{
+    let memo = &mut st.memo;
+    add(t, s, st.used, &mut memo.types, &mut memo.types_len, n);
 }

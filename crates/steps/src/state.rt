@@ -1,10 +1,18 @@
 // How the state of a reading moves: a part opens, bytes are passed.
-ghost use Rattle.std.specs.Prelude.{◌≡◌, ◌+◌, ◌<◌};
+ghost use Rattle.std.specs.Prelude.{◌≡◌, ◌+◌, ◌-◌, ◌<◌};
 ghost use Rattle.grammar.specs.Program.{at+};
+ghost use Rattle.grammar.specs.Counts.{opened};
 ghost use Rattle.steps.specs.Does.{Opening};
 
 use crate::reader::Reader;
 use grammar::{Refusal, State};
+
+// One part more is open, and so many more may open.
+pub fn opened(st: &mut State, limit: u16, left: u16)
+    ensures { st.new ≡ opened (limit - left) st.old }
+{
+    st.deep = st.deep.max(limit.saturating_sub(left));
+}
 
 impl Reader<'_> {
     // Opens a part where one more may open: how many more may then.
@@ -15,7 +23,7 @@ impl Reader<'_> {
             return Err(Refusal::Deep);
         }
         let left = depth - 1;
-        st.deep = st.deep.max(self.depth.saturating_sub(left));
+        opened(st, self.depth, left);
         Ok(left)
     }
 }

@@ -99,8 +99,8 @@ pub const LVALUE: usize = 143;
 
 // A piece of a word is eight of its letters as a number, the first letter lowest, and 0 where there are none. It is a
 // constant of a long match, since an array of constants is built on the stack at each call, and a match of constants
-// becomes a table of the compiled program. Each word has its own arm: with a range it becomes a table of jumps. The five
-// share no arm: one function of word and piece would have the same arms, and a choice among the five at each call.
+// becomes a table of the compiled program. Each word has its own arm: with a range it becomes a table of jumps. The
+// five share no arm: one function of word and piece would have the same arms, and a choice among the five at each call.
 // The first piece of word w.
 fn first(w: usize) -> u64
     ensures { result ≡ piece 0 w }
