@@ -5,22 +5,15 @@ ghost use Rattle.std.specs.Prelude.{◌≡◌, ◌++◌, ◌+◌, ◌≤◌, len
 ghost use Rattle.lines.specs.Output.{Open, output};
 ghost use Rattle.lines.specs.Steps.{Steps, Ready, Share};
 ghost use Rattle.lines.specs.Run.{AllAnswered};
-ghost use Rattle.answer_line.specs.Line.{longest_answer};
+ghost use Rattle.answer_line.specs.Line.{line_cells, line_text, longest_answer};
 
 mod lines;
 
-use answer_line::{LONGEST_ANSWER, TABLE, TEXT};
+use answer_line::LONGEST_ANSWER;
 use scan::limits::LONGEST_SYMBOL;
 
 // So many bytes of a line are kept from one read to the next: enough to refuse it for its length.
 const KEPT: usize = LONGEST_SYMBOL + 1;
-
-// The table and the text that each line is answered in; what one leaves there is nothing to the next.
-#[derive(Drop)]
-pub struct Scratch {
-    pub table: [u32; TABLE],
-    pub text: [u8; TEXT],
-}
 
 // How many bytes of the input's beginning are kept, how many of the output wait, and whether a step stopped for want of room.
 // Beside the buffers, which are the caller's fixed memory; `full` beside `kept`, which all but the next read take alike.
@@ -39,14 +32,24 @@ fn share(rest: usize, full: bool) -> usize
 }
 
 // Answers the lines that end in the bytes kept and those that came after them, and keeps the rest.
-pub fn step(input: &mut [u8], came: usize, out: &mut [u8], scratch: &mut Scratch, w: Work) -> Work
+// Callers lend table and text, so these are slices of a length that is asked for; what a line leaves there is free.
+pub fn step(
+    input: &mut [u8],
+    came: usize,
+    out: &mut [u8],
+    table: &mut [u32],
+    text: &mut [u8],
+    w: Work,
+) -> Work
     requires came_in_bounds { w.kept + came ≤ length input.old }
     requires longest_answer_in_bounds { w.used + longest_answer ≤ length out.old }
+    requires table_len { length table.old ≡ line_cells }
+    requires text_len { length text.old ≡ line_text }
     ensures steps { Steps (take w.kept input.old) (take w.used out.old) (take came (drop w.kept input.old)) (take result.kept input.new) (take result.used out.new) }
     ensures ready { Ready input.new out.new result }
 {
     let n = w.kept + came;
-    let place = lines::answer_lines(&input[..n], out, w.used, scratch);
+    let place = lines::answer_lines(&input[..n], out, w.used, table, text);
     let at = place.at;
     let full = out.len() - place.used < LONGEST_ANSWER;
     let count = share(n - at, full);
@@ -58,16 +61,18 @@ pub fn step(input: &mut [u8], came: usize, out: &mut [u8], scratch: &mut Scratch
     }
 }
 
-// At the end of the input: answers the rest that no newline ends.
-pub fn finish(input: &[u8], out: &mut [u8], scratch: &mut Scratch, w: Work) -> Work
+// At the end of the input: answers the rest that no newline ends. Callers lend the slices table and text, as to `step`.
+pub fn finish(input: &[u8], out: &mut [u8], table: &mut [u32], text: &mut [u8], w: Work) -> Work
     requires kept_in_bounds { w.kept ≤ length input.now }
     requires fact { Open (take w.kept input.now) }
     requires longest_answer_in_bounds { w.used + longest_answer ≤ length out.old }
+    requires table_len { length table.old ≡ line_cells }
+    requires text_len { length text.old ≡ line_text }
     ensures kept_value { (result.kept ≡ 0) × (result.used ≤ length out.new) }
     ensures out_after { take result.used out.new ≡ take w.used out.old ++ output (take w.kept input.now) }
     ensures all_answered { AllAnswered (take w.kept input.now) (take w.used out.old) (take result.used out.new) }
 {
-    let end = lines::answer_rest(&input[..w.kept], out, w.used, scratch);
+    let end = lines::answer_rest(&input[..w.kept], out, w.used, table, text);
     Work {
         kept: 0,
         used: end,

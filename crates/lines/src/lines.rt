@@ -2,9 +2,8 @@
 ghost use Rattle.std.specs.Prelude.{◌≡◌, ◌++◌, ◌+◌, ◌≤◌, ◌==◌, length, take, position};
 ghost use Rattle.lines.specs.Output.{Open, output};
 ghost use Rattle.lines.specs.Steps.{Goes};
-ghost use Rattle.answer_line.specs.Line.{longest_answer};
+ghost use Rattle.answer_line.specs.Line.{line_cells, line_text, longest_answer};
 
-use crate::Scratch;
 use answer_line::{LONGEST_ANSWER, answer_line};
 
 // Up to where the lines are answered, and how many bytes of the output wait.
@@ -22,8 +21,17 @@ fn line_end(rest: &[u8]) -> Option<usize>
 }
 
 // Answers the lines that end in the input, as long as there is room for one more.
-pub fn answer_lines(input: &[u8], out: &mut [u8], used: usize, scratch: &mut Scratch) -> Place
+// The table and the text are slices that callers of `step` lend, so their lengths are asked for.
+pub fn answer_lines(
+    input: &[u8],
+    out: &mut [u8],
+    used: usize,
+    table: &mut [u32],
+    text: &mut [u8],
+) -> Place
     requires longest_answer_in_bounds { used + longest_answer ≤ length out.old }
+    requires table_len { length table.old ≡ line_cells }
+    requires text_len { length text.old ≡ line_text }
     ensures { Goes input.now out.old used out.new result.at result.used }
 {
     let mut at = 0;
@@ -34,20 +42,28 @@ pub fn answer_lines(input: &[u8], out: &mut [u8], used: usize, scratch: &mut Scr
         };
         let end = at + n;
         let line = &input[at..end];
-        put = answer_line(line, out, put, &mut scratch.table, &mut scratch.text);
+        put = answer_line(line, out, put, table, text);
         at = end + 1;
     }
     Place { at, used: put }
 }
 
-// Answers a rest that no newline ends.
-pub fn answer_rest(rest: &[u8], out: &mut [u8], used: usize, scratch: &mut Scratch) -> usize
+// Answers a rest that no newline ends. Callers of `finish` lend the slices table and text.
+pub fn answer_rest(
+    rest: &[u8],
+    out: &mut [u8],
+    used: usize,
+    table: &mut [u32],
+    text: &mut [u8],
+) -> usize
     requires fact { Open rest.now }
     requires longest_answer_in_bounds { used + longest_answer ≤ length out.old }
+    requires table_len { length table.old ≡ line_cells }
+    requires text_len { length text.old ≡ line_text }
     ensures { (result ≤ length out.new) × (take result out.new ≡ take used out.old ++ output rest.now) }
 {
     if rest.is_empty() {
         return used;
     }
-    answer_line(rest, out, used, &mut scratch.table, &mut scratch.text)
+    answer_line(rest, out, used, table, text)
 }

@@ -7,7 +7,7 @@ ghost use Rattle.undname.specs.Turns.{piece, Between, Reaches, Emptied, Finished
 ghost use Rattle.answer_line.specs.Line.{longest_answer};
 
 use answer_line::{TABLE, TEXT};
-use lines::{Scratch, Work};
+use lines::Work;
 use std::io::{Read, Stderr, Stdin, Stdout, Write};
 use std::ops::ControlFlow;
 
@@ -27,7 +27,8 @@ struct Program {
     sink: Stdout,
     input: [u8; PIECE],
     out: [u8; PIECE],
-    scratch: Scratch,
+    table: [u32; TABLE],
+    text: [u8; TEXT],
 }
 
 impl Program {
@@ -67,7 +68,14 @@ impl Program {
         requires longest_answer_in_bounds { w.used + longest_answer ≤ piece }
         ensures { IfOk result (λ v. Between self.new.input v) }
     {
-        let after = lines::step(&mut self.input, came, &mut self.out, &mut self.scratch, w);
+        let after = lines::step(
+            &mut self.input,
+            came,
+            &mut self.out,
+            &mut self.table,
+            &mut self.text,
+            w,
+        );
         self.hand_out(after)
     }
 
@@ -78,7 +86,13 @@ impl Program {
         requires longest_answer_in_bounds { w.used + longest_answer ≤ piece }
         ensures { IfOk result Finished }
     {
-        let last = lines::finish(&self.input, &mut self.out, &mut self.scratch, w);
+        let last = lines::finish(
+            &self.input,
+            &mut self.out,
+            &mut self.table,
+            &mut self.text,
+            w,
+        );
         self.hand_out(last)
     }
 
@@ -125,10 +139,8 @@ fn main(rt: HostRuntime) {
         sink: rt.stdout(),
         input: [0; PIECE],
         out: [0; PIECE],
-        scratch: Scratch {
-            table: [0; TABLE],
-            text: [0; TEXT],
-        },
+        table: [0; TABLE],
+        text: [0; TEXT],
     };
     if let Err(failed) = program.run() {
         complain(rt.stderr(), failed);
