@@ -1,7 +1,7 @@
 // The symbols of a log, a line of standard input each. For each it writes a line: `ok`, tab, text, or `no`, tab, number, tab, offset.
 #![tactic(auto)]
 
-ghost use Rattle.std.specs.Prelude.{false, ◌≡◌, ◌+◌, ◌≤◌, ◌<◌, length, take, IfOk};
+ghost use Rattle.std.specs.Prelude.{false, ◌≡◌, ◌+◌, ◌≤◌, ◌<◌, take, IfOk};
 ghost use Rattle.lines.specs.Output.{Open};
 ghost use Rattle.undname.specs.Turns.{piece, Between, Reaches, Emptied, Finished, Goes};
 ghost use Rattle.answer_line.specs.Line.{longest_answer};
