@@ -1,7 +1,8 @@
 // What nodes mean, and whether two mean the same.
 #![tactic(auto)]
 
-ghost use Rattle.std.specs.Prelude.{◌≡◌, ◌-◌, ◌≤◌, ◌<◌, ◌^◌, eqb, true, false};
+ghost use Rattle.std.specs.Prelude.{◌≡◌, List, ℕ, ◌-◌, ◌≤◌, ◌<◌, ◌^◌, eqb, true, false, Err};
+ghost use Rattle.meaning.specs.declared.Unequal.TheVariants.{Spent};
 ghost use Rattle.node.specs.Cells as cells;
 ghost use Rattle.node.specs.Cells.{nodes, cell_of, KIND};
 ghost use Rattle.meaning.specs.Tree.{part, decoded, content_of, content_number, tree_of, kid_of, is_blank, eq_list, eq_tree, eq_content, eq_own, eq_numbers, eq_kids, eq_but_first};
@@ -34,7 +35,7 @@ pub fn part_of(symbol: &[u8], s: usize, n: usize) -> &[u8]
 }
 
 // Whether two encoded strings stand for the same bytes: an arm, and a lemma, for each way that they end or differ.
-fn same_string(a: &[u8], b: &[u8]) -> bool
+fn same_decoded(a: &[u8], b: &[u8]) -> bool
     ensures { result ≡ eq_list (decoded a.now) (decoded b.now) }
 {
     let mut i = 0;
@@ -65,6 +66,23 @@ fn same_string(a: &[u8], b: &[u8]) -> bool
             },
         }
     }
+}
+
+// Whether two parts of the symbol have the same bytes. Few nodes ask, so it stays out of the code that every node runs.
+#[inline(never)]
+#[tactic(auto, unfolding(crate::specs::Tree::eq_list))]
+fn same_bytes(symbol: &[u8], s: usize, n: usize, t: usize, m: usize) -> bool
+    ensures { result ≡ eq_list (part symbol.now s n) (part symbol.now t m) }
+{
+    part_of(symbol, s, n) == part_of(symbol, t, m)
+}
+
+// The same of two parts that are encoded strings.
+#[inline(never)]
+fn same_string(symbol: &[u8], s: usize, n: usize, t: usize, m: usize) -> bool
+    ensures { result ≡ eq_list (decoded (part symbol.now s n)) (decoded (part symbol.now t m)) }
+{
+    same_decoded(part_of(symbol, s, n), part_of(symbol, t, m))
 }
 
 // What the first two numbers of a kind are: numbers, or a start and a length in the symbol,
@@ -153,20 +171,22 @@ impl<'a> Pair<'a> {
     }
 
     // Nodes of one kind: their bytes, or the numbers in their place.
-    #[tactic(auto, unfolding(crate::specs::Tree::eq_content, crate::specs::Tree::bytes_of, crate::specs::Tree::eq_list))]
+    #[tactic(auto, unfolding(crate::specs::Tree::eq_content, crate::specs::Tree::bytes_of))]
     fn same_content(&self) -> bool
         requires { cell_of self.now.table.now self.now.i KIND ≡ cell_of self.now.table.now self.now.j KIND }
         ensures { result ≡ eq_content self.now.table.now self.now.symbol.now self.now.i self.now.j }
     {
-        let (a, b) = self.bytes();
+        let (s, t) = self.cells(cells::P);
+        let (n, m) = self.cells(cells::Q);
         match self.content() {
-            Content::Numbers => self.same_cell(cells::P) && self.same_cell(cells::Q),
-            Content::Bytes => a == b,
-            Content::Encoded => same_string(a, b),
+            Content::Numbers => s == t && n == m,
+            Content::Bytes => same_bytes(self.symbol, s, n, t, m),
+            Content::Encoded => same_string(self.symbol, s, n, t, m),
         }
     }
 
     // The nodes, without what they refer to.
+    #[inline(always)]
     #[tactic(auto, using(crate::proofs::Own::own_is))]
     fn same_own(&self) -> bool
         ensures { result ≡ eq_own self.now.table.now self.now.symbol.now self.now.i self.now.j }
@@ -195,6 +215,7 @@ impl<'a> Pair<'a> {
     }
 
     // Whether they have one kind and the same numbers.
+    #[inline(always)]
     fn same_numbers(&self) -> bool
         ensures { result ≡ eq_numbers self.now.table.now self.now.i self.now.j }
     {
@@ -206,6 +227,7 @@ impl<'a> Pair<'a> {
     }
 
     // Whether they have the same references.
+    #[inline(always)]
     fn same_kids(&self) -> bool
         ensures { result ≡ eq_kids self.now.table.now self.now.i self.now.j }
     {
@@ -228,54 +250,6 @@ impl<'a> Pair<'a> {
             Content::Numbers => 1,
             _ => self.cells(cells::Q).0 / BYTES_A_VISIT + 1,
         }
-    }
-
-    // The references in cell c, after others.
-    #[cycle(plainly)]
-    fn plain_kids(&self, c: usize, left: usize) -> Result<usize, Unequal>
-        requires { c < 12 }
-        ensures { Judged (eq_tree (tree_of self.now.table.now self.now.symbol.now (kid_of self.now.table.now self.now.i c)) (tree_of self.now.table.now self.now.symbol.now (kid_of self.now.table.now self.now.j c))) result }
-    {
-        let (r, q) = self.kids(c);
-        let Pair { table, symbol, .. } = *self;
-        let kids = Refs {
-            table,
-            symbol,
-            r,
-            q,
-        };
-        if kids.are_twins() {
-            Ok(left)
-        } else {
-            kids.plain(left)
-        }
-    }
-
-    // What they hold, and their second and third references.
-    #[cycle(walks)]
-    fn same_but_first(&self, links: &mut [u16]) -> bool
-        requires { Links (tree_of self.now.table.now self.now.symbol.now) links.old }
-        ensures { (result ≡ eq_but_first self.now.table.now self.now.symbol.now self.now.i self.now.j) × Links (tree_of self.now.table.now self.now.symbol.now) links.new }
-    {
-        self.same_own() && self.linked_kids(cells::B, links) && self.linked_kids(cells::C, links)
-    }
-
-    // The same with links: of the second references, entries of lists mostly, most are told at once.
-    #[cycle(walks)]
-    fn linked_kids(&self, c: usize, links: &mut [u16]) -> bool
-        requires of_node { c < 12 }
-        requires links { Links (tree_of self.now.table.now self.now.symbol.now) links.old }
-        ensures { (result ≡ eq_tree (tree_of self.now.table.now self.now.symbol.now (kid_of self.now.table.now self.now.i c)) (tree_of self.now.table.now self.now.symbol.now (kid_of self.now.table.now self.now.j c))) × Links (tree_of self.now.table.now self.now.symbol.now) links.new }
-    {
-        let (r, q) = self.kids(c);
-        let Pair { table, symbol, .. } = *self;
-        let kids = Refs {
-            table,
-            symbol,
-            r,
-            q,
-        };
-        kids.met(links) || kids.linked(links)
     }
 }
 
@@ -309,8 +283,9 @@ struct Refs<'a> {
 
 impl<'a> Refs<'a> {
     // Whether they are told to mean the same by their cells alone: one reference, or nodes with the same cells.
+    #[inline(always)]
     fn are_twins(&self) -> bool
-        ensures { result ≡ true → tree_of self.now.table.now self.now.symbol.now self.now.r ≡ tree_of self.now.table.now self.now.symbol.now self.now.q }
+        ensures { (s : List ℕ) → result ≡ true → tree_of self.now.table.now s self.now.r ≡ tree_of self.now.table.now s self.now.q }
     {
         let Refs {
             table,
@@ -334,6 +309,7 @@ impl<'a> Refs<'a> {
     }
 
     // Whether they are told to mean the same by their cells, or by links.
+    #[inline(always)]
     fn met(&self, links: &mut [u16]) -> bool
         requires { Links (tree_of self.now.table.now self.now.symbol.now) links.old }
         ensures { (result ≡ true → tree_of self.now.table.now self.now.symbol.now self.now.r ≡ tree_of self.now.table.now self.now.symbol.now self.now.q) × Links (tree_of self.now.table.now self.now.symbol.now) links.new }
@@ -345,6 +321,7 @@ impl<'a> Refs<'a> {
     }
 
     // Links them, of equal meaning, and so on along their chains of first references.
+    #[inline(always)]
     fn join(&self, links: &mut [u16])
         requires links { Links (tree_of self.now.table.now self.now.symbol.now) links.old }
         requires same { tree_of self.now.table.now self.now.symbol.now self.now.r ≡ tree_of self.now.table.now self.now.symbol.now self.now.q }
@@ -366,119 +343,224 @@ impl<'a> Refs<'a> {
             y = find(links, b);
         }
     }
+}
 
-    // Whether they mean the same: links to what is found equal, and a note of what is found to differ.
-    #[cycle(walks)]
-    fn linked(&self, links: &mut [u16]) -> bool
-        requires { Links (tree_of self.now.table.now self.now.symbol.now) links.old }
-        ensures { (result ≡ eq_tree (tree_of self.now.table.now self.now.symbol.now self.now.r) (tree_of self.now.table.now self.now.symbol.now self.now.q)) × Links (tree_of self.now.table.now self.now.symbol.now) links.new }
-    {
-        let Refs {
-            table,
-            symbol,
-            r,
-            q,
-        } = *self;
-        let x = find(links, r);
-        let y = find(links, q);
-        if x == y {
-            return true;
-        }
-        if x == 0 || y == 0 {
-            return false;
-        }
-        let found = Refs {
+// The functions that call each other take what they go by one by one: a struct would stand in the frame of each call, and
+// they go as deep as the table does.
+
+// Whether r and q mean the same: links to what is found equal, and a note of what is found to differ.
+#[cycle(walks)]
+fn linked(table: &[u32], symbol: &[u8], links: &mut [u16], r: usize, q: usize) -> bool
+    requires held { (r ≤ nodes table.now) × (q ≤ nodes table.now) }
+    requires links { Links (tree_of table.now symbol.now) links.old }
+    ensures { (result ≡ eq_tree (tree_of table.now symbol.now r) (tree_of table.now symbol.now q)) × Links (tree_of table.now symbol.now) links.new }
+{
+    let x = find(links, r);
+    let y = find(links, q);
+    if x == y {
+        return true;
+    }
+    if x == 0 || y == 0 {
+        return false;
+    }
+    if walk(table, symbol, links, x, y) {
+        Refs {
             table,
             symbol,
             r: x,
             q: y,
-        };
-        if found.walk(links) {
-            found.join(links);
-            return true;
         }
-        note(links, x, y);
-        false
+        .join(links);
+        return true;
     }
+    note(links, x, y);
+    false
+}
 
-    // Recursion over the second and the third references and a loop along the first.
-    #[cycle(walks)]
-    fn walk(&self, links: &mut [u16]) -> bool
-        requires { Links (tree_of self.now.table.now self.now.symbol.now) links.old }
-        ensures { (result ≡ eq_tree (tree_of self.now.table.now self.now.symbol.now self.now.r) (tree_of self.now.table.now self.now.symbol.now self.now.q)) × Links (tree_of self.now.table.now self.now.symbol.now) links.new }
-    {
-        let Refs { table, symbol, .. } = *self;
-        let mut x = self.r;
-        let mut y = self.q;
-        let mut left = STRETCH;
-        while x != y {
-            if x == 0 || y == 0 || noted(links, x, y) {
-                return false;
-            }
-            let pair = Pair {
-                table,
-                symbol,
-                i: x - 1,
-                j: y - 1,
-            };
-            if !pair.same_but_first(links) {
-                return false;
-            }
-            let (r, q) = pair.kids(cells::A);
-            left -= 1;
-            if left == 0 {
-                return Refs {
-                    table,
-                    symbol,
-                    r,
-                    q,
-                }
-                .linked(links);
-            }
-            x = find(links, r);
-            y = find(links, q);
-        }
-        true
+// The second references of nodes i and j: entries of lists, mostly, of which most are told at once.
+#[cycle(walks)]
+fn second(table: &[u32], symbol: &[u8], links: &mut [u16], i: usize, j: usize) -> bool
+    requires held { (i < nodes table.now) × (j < nodes table.now) }
+    requires links { Links (tree_of table.now symbol.now) links.old }
+    ensures { (result ≡ eq_tree (tree_of table.now symbol.now (kid_of table.now i cells.B)) (tree_of table.now symbol.now (kid_of table.now j cells.B))) × Links (tree_of table.now symbol.now) links.new }
+{
+    let pair = Pair {
+        table,
+        symbol,
+        i,
+        j,
+    };
+    let (r, q) = pair.kids(cells::B);
+    let kids = Refs {
+        table,
+        symbol,
+        r,
+        q,
+    };
+    kids.met(links) || linked(table, symbol, links, r, q)
+}
+
+// Their third references: few kinds have one, so nothing but their numbers is asked first.
+#[cycle(walks)]
+fn third(table: &[u32], symbol: &[u8], links: &mut [u16], i: usize, j: usize) -> bool
+    requires held { (i < nodes table.now) × (j < nodes table.now) }
+    requires links { Links (tree_of table.now symbol.now) links.old }
+    ensures { (result ≡ eq_tree (tree_of table.now symbol.now (kid_of table.now i cells.C)) (tree_of table.now symbol.now (kid_of table.now j cells.C))) × Links (tree_of table.now symbol.now) links.new }
+{
+    let pair = Pair {
+        table,
+        symbol,
+        i,
+        j,
+    };
+    let (r, q) = pair.kids(cells::C);
+    if r == q {
+        return true;
     }
+    linked(table, symbol, links, r, q)
+}
 
-    // Plain recursion: what is left of the budget if they mean the same.
-    #[cycle(plainly)]
-    fn plain(&self, left: usize) -> Result<usize, Unequal>
-        ensures { Judged (eq_tree (tree_of self.now.table.now self.now.symbol.now self.now.r) (tree_of self.now.table.now self.now.symbol.now self.now.q)) result }
-    {
-        let Refs {
-            table,
-            symbol,
-            r,
-            q,
-        } = *self;
-        if r == q {
-            return Ok(left);
-        }
-        if r == 0 || q == 0 {
-            return Err(Unequal::Differ);
+// What nodes i and j hold, and their second and third references.
+#[cycle(walks)]
+fn same_but_first(table: &[u32], symbol: &[u8], links: &mut [u16], i: usize, j: usize) -> bool
+    requires held { (i < nodes table.now) × (j < nodes table.now) }
+    requires links { Links (tree_of table.now symbol.now) links.old }
+    ensures { (result ≡ eq_but_first table.now symbol.now i j) × Links (tree_of table.now symbol.now) links.new }
+{
+    let pair = Pair {
+        table,
+        symbol,
+        i,
+        j,
+    };
+    pair.same_own() && second(table, symbol, links, i, j) && third(table, symbol, links, i, j)
+}
+
+// Recursion over the second and the third references and a loop along the first.
+#[cycle(walks)]
+fn walk(table: &[u32], symbol: &[u8], links: &mut [u16], r: usize, q: usize) -> bool
+    requires held { (r ≤ nodes table.now) × (q ≤ nodes table.now) }
+    requires links { Links (tree_of table.now symbol.now) links.old }
+    ensures { (result ≡ eq_tree (tree_of table.now symbol.now r) (tree_of table.now symbol.now q)) × Links (tree_of table.now symbol.now) links.new }
+{
+    let mut x = r;
+    let mut y = q;
+    let mut left = STRETCH;
+    while x != y {
+        if x == 0 || y == 0 || noted(links, x, y) {
+            return false;
         }
         let pair = Pair {
             table,
             symbol,
-            i: r - 1,
-            j: q - 1,
+            i: x - 1,
+            j: y - 1,
         };
-        if !pair.same_own() {
-            return Err(Unequal::Differ);
+        if !same_but_first(table, symbol, links, x - 1, y - 1) {
+            return false;
         }
-        let left = left.checked_sub(pair.cost()).ok_or(Unequal::Spent)?;
-        let (x, y) = pair.kids(cells::A);
-        let left = Refs {
-            table,
-            symbol,
-            r: x,
-            q: y,
+        let (v, w) = pair.kids(cells::A);
+        left -= 1;
+        if left == 0 {
+            return linked(table, symbol, links, v, w);
         }
-        .plain(left)?;
-        let left = pair.plain_kids(cells::B, left)?;
-        pair.plain_kids(cells::C, left)
+        x = find(links, v);
+        y = find(links, w);
     }
+    true
+}
+
+// The first references of nodes i and j: most that differ are no twins, so nothing but their numbers is asked first.
+#[inline(always)]
+#[cycle(plainly)]
+fn plain_first(
+    table: &[u32],
+    symbol: &[u8],
+    i: usize,
+    j: usize,
+    left: usize,
+) -> Result<usize, Unequal>
+    requires { (i < nodes table.now) × (j < nodes table.now) }
+    ensures { Judged (eq_tree (tree_of table.now symbol.now (kid_of table.now i cells.A)) (tree_of table.now symbol.now (kid_of table.now j cells.A))) result }
+{
+    let pair = Pair {
+        table,
+        symbol,
+        i,
+        j,
+    };
+    let (r, q) = pair.kids(cells::A);
+    if r == q {
+        return Ok(left);
+    }
+    plain(table, symbol, r, q, left)
+}
+
+// Their second or third references, after others: many that differ in number are twins.
+#[inline(always)]
+#[cycle(plainly)]
+fn plain_kids(
+    table: &[u32],
+    symbol: &[u8],
+    i: usize,
+    j: usize,
+    c: usize,
+    left: usize,
+) -> Result<usize, Unequal>
+    requires held { (i < nodes table.now) × (j < nodes table.now) }
+    requires cell { c < 12 }
+    ensures { Judged (eq_tree (tree_of table.now symbol.now (kid_of table.now i c)) (tree_of table.now symbol.now (kid_of table.now j c))) result }
+{
+    let pair = Pair {
+        table,
+        symbol,
+        i,
+        j,
+    };
+    let (r, q) = pair.kids(c);
+    if r == q {
+        return Ok(left);
+    }
+    let kids = Refs {
+        table,
+        symbol,
+        r,
+        q,
+    };
+    if kids.are_twins() {
+        Ok(left)
+    } else {
+        plain(table, symbol, r, q, left)
+    }
+}
+
+// Plain recursion: what is left of the budget if r and q mean the same.
+#[cycle(plainly)]
+fn plain(table: &[u32], symbol: &[u8], r: usize, q: usize, left: usize) -> Result<usize, Unequal>
+    requires { (r ≤ nodes table.now) × (q ≤ nodes table.now) }
+    ensures { Judged (eq_tree (tree_of table.now symbol.now r) (tree_of table.now symbol.now q)) result }
+{
+    if r == q {
+        return Ok(left);
+    }
+    if r == 0 || q == 0 {
+        return Err(Unequal::Differ);
+    }
+    let i = r - 1;
+    let j = q - 1;
+    let pair = Pair {
+        table,
+        symbol,
+        i,
+        j,
+    };
+    if !pair.same_own() {
+        return Err(Unequal::Differ);
+    }
+    let left = left.checked_sub(pair.cost()).ok_or(Unequal::Spent)?;
+    let left = plain_first(table, symbol, i, j, left)?;
+    let left = plain_kids(table, symbol, i, j, cells::B, left)?;
+    plain_kids(table, symbol, i, j, cells::C, left)
 }
 
 // Whether r means what a node past the table does: no kind, no numbers, no references.
@@ -499,7 +581,7 @@ fn blank(table: &[u32], r: usize) -> bool
 
 // Yes or no as an answer within a budget.
 fn told(same: bool, left: usize) -> Result<usize, Unequal>
-    ensures { Judged same result }
+    ensures { Judged same result × (result ≡ Err Spent → ⊥) }
 {
     if same { Ok(left) } else { Err(Unequal::Differ) }
 }
@@ -532,13 +614,7 @@ pub fn judge(
         j: q - 1,
     };
     if nodes.alike() {
-        Refs {
-            table,
-            symbol,
-            r,
-            q,
-        }
-        .plain(left)
+        plain(table, symbol, r, q, left)
     } else {
         Err(Unequal::Differ)
     }
@@ -559,13 +635,7 @@ pub fn same_linked(table: &[u32], symbol: &[u8], links: &mut [u16], r: usize, q:
     if n < q {
         return blank(table, r);
     }
-    Refs {
-        table,
-        symbol,
-        r,
-        q,
-    }
-    .linked(links)
+    linked(table, symbol, links, r, q)
 }
 
 // Whether r and q mean the same.

@@ -20,7 +20,7 @@ fn search(t: &[u8], from: usize) -> Span
     }
 }
 
-// Past the blocks that have no `@`, then byte by byte. `position` alone takes twice the instructions on long names
+// Past the blocks that have no `@`, then byte by byte: on long names a fifth of the instructions that bytes alone take
 // (docs/SPEED.md, the search for `@`).
 fn search_blocks(t: &[u8]) -> Span
     ensures { result ≡ read_string t.now }
@@ -36,13 +36,16 @@ fn search_blocks(t: &[u8]) -> Span
     search(t, i)
 }
 
-// Up to the next `@`, which is taken too. Nine names of ten end in the first block: there byte by byte is quicker.
+// Up to the next `@`, which is taken too. Nine names of ten end in the first block: there byte by byte is quicker, and
+// the block's length is a constant, so that the compiler writes its bytes out.
 pub fn read_string(s: &[u8], at: usize) -> Span
     ensures { result ≡ read_string (drop at s.now) }
 {
     let t = rest(s, at);
-    if let Ok(n) = search(&t[..BLOCK.min(t.len())], 0) {
-        return Ok(n);
+    if BLOCK <= t.len() {
+        if let Ok(n) = search(&t[..BLOCK], 0) {
+            return Ok(n);
+        }
     }
     search_blocks(t)
 }

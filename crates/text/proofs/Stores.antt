@@ -1,10 +1,10 @@
 -- What the leaves of the writer store is what `Wrote` says. Assumes nothing.
-use Rattle.std.proofs.Common.{◌≡◌, ℕ, suc, ◌+◌, ◌-◌, ◌<◌, ◌≤◌, List, [], ◌∷◌, ◌++◌, length, get_or, take, drop, set, sym, refl, ap, ◌∙◌, ap₂, append_assoc, append-nil, le_refl, add-one, arith, length-append, length-drop, drop_of_length-le, length-take-le, take_all, get_or-take, drop-drop}
+use Rattle.std.proofs.Common.{◌≡◌, ℕ, suc, ◌+◌, ◌-◌, ◌<◌, ◌≤◌, List, [], ◌∷◌, ◌++◌, length, get_or, take, drop, set, sym, refl, ap, ◌∙◌, ap₂, append_assoc, append-nil, le_refl, add-one, arith, length-append, length-drop, drop_of_length-le, length-take-le, take_all, drop-cons, get_or-take, take-suc, drop-drop}
 use native.Mathlib.Decide.{dec_le}
 use Rattle.std.specs.Prelude.{min}
 use Rattle.std.proofs.Math.Nat.{min-eq_left, min-eq_right}
 use borrow.Rule.Slice.PartMut.{put_mid}
-use lib.Seq.{set_split, take-append-add, append_snoc}
+use lib.Seq.{set_split, set_at, take-append-add, append_snoc}
 use Rattle.text.specs.Emit.{last_of, lit, cut, last_at, place_after, Wrote}
 use Rattle.text.proofs.Cut.{length_cut, cut-self, cut_fits}
 use Rattle.text.proofs.Seq.{place-fits, place-over}
@@ -31,8 +31,18 @@ wrote-end b o x e =
       out = ap (λ n. n + 1) e ∙ sym (place-over (length b) o 1 h k);
     }
 
+-- the first i bytes of s over those of t
+abbrev pub over : List ℕ → List ℕ → ℕ → List ℕ
+over t s i = take i s ++ drop i t
+
+pub over-more : (t s : List ℕ) (i : ℕ) → i < length t → i < length s → set (over t s i) i (get_or s i 0) ≡ over t s (i + 1)
+over-more t s i h k =
+    let e : length (take i s) ≡ i = length-take-le i s (omega arith) in
+    ap (λ l. set (take i s ++ l) i (get_or s i 0)) (drop-cons t i 0 h) ∙ set_at (take i s) (get_or t i 0) (drop (suc i) t) (get_or s i 0) i e
+    ∙ sym (append_snoc (take i s) (get_or s i 0) (drop (suc i) t)) ∙ ap (λ l. l ++ drop (suc i) t) (sym (take-suc s i 0 k)) ∙ ap (over t s) (sym (add-one i))
+
 -- as many bytes of s as there is room for, over those of b
-pub cut_min : (b s : List ℕ) (n : ℕ) → n ≡ min (length s) (length b) → take n s ++ drop n b ≡ cut b s
+pub cut_min : (b s : List ℕ) (n : ℕ) → n ≡ min (length s) (length b) → over b s n ≡ cut b s
 unfolding cut
 cut_min b s n e = by (dec_le (length s) (length b))
   where

@@ -13,12 +13,37 @@ pub struct Buffer<'a> {
 // The last byte of a text with nothing in it.
 const NO_BYTE: u32 = 256;
 
-// As much of s as there is room for.
+// As much of s as there is room for. The library's `copy_from_slice` asks for memmove, which an archive for C must not
+// need (include/farthingmoss.h).
 pub fn fill(rest: &mut [u8], s: &[u8])
     ensures { rest.new ≡ cut rest.old s.now }
 {
-    let n = s.len().min(rest.len());
-    rest[..n].copy_from_slice(&s[..n]);
+    for i in 0..s.len().min(rest.len()) {
+        rest[i] = s[i];
+    }
+}
+
+// The place after n bytes more.
+pub fn advance(text: &[u8], o: usize, n: usize) -> usize
+    ensures { result ≡ place_after (length text.now) o n }
+{
+    let room = text.len();
+    if room < o {
+        return o;
+    }
+    if n <= room - o { o + n } else { room + 1 }
+}
+
+// The last byte written, as a number.
+pub fn last_byte(text: &[u8], o: usize) -> u32
+    ensures { result ≡ last_at text.now o }
+{
+    let end = o.min(text.len());
+    if end == 0 {
+        NO_BYTE
+    } else {
+        text[end - 1] as u32
+    }
 }
 
 impl Buffer<'_> {
@@ -33,15 +58,7 @@ impl Buffer<'_> {
     pub fn place_after(&self, n: usize) -> usize
         ensures { result ≡ place_after (length self.now.bytes.now) self.now.at n }
     {
-        let room = self.bytes.len();
-        if room < self.at {
-            return self.at;
-        }
-        if n <= room - self.at {
-            self.at + n
-        } else {
-            room + 1
-        }
+        advance(self.bytes, self.at, n)
     }
 
     // The bytes of s.
@@ -72,11 +89,6 @@ impl Buffer<'_> {
     pub fn last_byte(&self) -> u32
         ensures { result ≡ last_at self.now.bytes.now self.now.at }
     {
-        let end = self.at.min(self.bytes.len());
-        if end == 0 {
-            NO_BYTE
-        } else {
-            self.bytes[end - 1] as u32
-        }
+        last_byte(self.bytes, self.at)
     }
 }

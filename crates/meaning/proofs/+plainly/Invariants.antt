@@ -1,8 +1,11 @@
 use Prim.Native.Nat.{◌+◌, ◌*◌}
 use Rattle.meaning.proofs.+plainly.Given as goal
 
-abbrev pub decreases-Refs::plain : goal.decreases-Refs::plain
-decreases-Refs::plain l = 2 * l.self.now.r
+abbrev pub decreases-plain : goal.decreases-plain
+decreases-plain l = 2 * l.r
 
-abbrev pub decreases-Pair::plain_kids : goal.decreases-Pair::plain_kids
-decreases-Pair::plain_kids l = 2 * l.self.now.i + 1
+abbrev pub decreases-plain_kids : goal.decreases-plain_kids
+decreases-plain_kids l = 2 * l.i + 1
+
+abbrev pub decreases-plain_first : goal.decreases-plain_first
+decreases-plain_first l = 2 * l.i + 1

@@ -6,4 +6,4 @@ use Rattle.meaning.proofs.Refs.are_twins.Goals as goal
 
 pub returns-then-same_kids : goal.returns-then-same_kids
 returns-then-same_kids c =
-    λ e. cells-same _ _ _ _ (omega (arith, c.if-r-eq0.false)) (omega (arith, c.if-q-eq0.false)) (sym c.same_kids.ensures ∙ c.if-same_kids.true) (sym c.same_numbers.ensures ∙ e)
+    λ s e. cells-same _ s _ _ (omega (arith, c.if-r-eq0.false)) (omega (arith, c.if-q-eq0.false)) (sym c.same_kids.ensures ∙ c.if-same_kids.true) (sym c.same_numbers.ensures ∙ e)

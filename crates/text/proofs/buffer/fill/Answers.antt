@@ -1,7 +1,9 @@
 -- Assumes nothing.
-use Rattle.std.proofs.Common.{ap, ◌∙◌, ◌++◌, drop}
+use Rattle.std.proofs.Common.{◌≡◌, ◌∙◌, arith}
 use Rattle.text.proofs.Stores.{cut_min}
 use Rattle.text.proofs.buffer.fill.Goals as goal
 
 pub returns : goal.returns
-returns c = ap (λ l. l ++ drop c.min-n.result c.args.rest.now) c.copy_from_slice.ensures.after ∙ cut_min c.args.rest.now c.args.s.now c.min-n.result c.min-n.ensures
+returns c =
+    let e : c.loop-i.i ≡ c.min-i-end.result = omega arith in
+    c.loop-i.invariant.1 ∙ cut_min _ _ _ (e ∙ c.min-i-end.ensures)

@@ -2,7 +2,7 @@
 use Rattle.std.proofs.Common.{sym, ap, ◌∙◌}
 use Rattle.text.specs.Emit.{last_at, last_of}
 use Rattle.text.proofs.Stores.{ends-min, last-is}
-use Rattle.text.proofs.buffer.Buffer.last_byte.Goals as goal
+use Rattle.text.proofs.buffer.last_byte.Goals as goal
 
 pub returns-then-end-eq0 : goal.returns-then-end-eq0
 unfolding last_at last_of

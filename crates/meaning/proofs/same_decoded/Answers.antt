@@ -6,7 +6,7 @@ use Rattle.strings.proofs.Fit.{character-fits}
 use Rattle.scan.proofs.Fits.{value_stays}
 use Rattle.meaning.proofs.Decoded.{character-takes, string-longer, string-other, string-same, string-shorter, string-end}
 use borrow.Author.Rules.{rules}
-use Rattle.meaning.proofs.same_string.Goals as goal
+use Rattle.meaning.proofs.same_decoded.Goals as goal
 
 pub loop-v-init : goal.loop-v-init
 loop-v-init c = (search rules, search rules, refl)
