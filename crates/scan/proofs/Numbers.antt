@@ -43,6 +43,10 @@ module _ (low base n v : ℕ) (s : List ℕ) (i : ℕ) where
     unfolding digits
     digits-more off h = rw (got _ e, ne_eqb c 64 off, h, drop-drop 1 i s)
 
+-- where `@` is no digit, no digit is `@`
+pub no-end : (low base : ℕ) {c d : ℕ} → digit_in low base 64 ≡ None → digit_in low base c ≡ Some d → c ≡ 64 → ⊥
+no-end low base {c} {d} end is e = let z : ◌≡◌ {A = Option ℕ} (Some d) None = sym is ∙ ap (digit_in low base) e ∙ end in cc
+
 -- a range of bytes, by its highest byte and by the number of its bytes
 test_is :
     (low base top c : ℕ) → top + 1 ≡ low + base → low ≤ c → (x : Bool) → ltb (c - low) base ≡ x → leb c top ≡ x

@@ -1,5 +1,5 @@
 // Numbers of 32 bits: those of `read_number`, and the decimal ones of a guard.
-ghost use Rattle.std.specs.Prelude.{◌≡◌, ◌≤◌, ◌+◌, ◌*◌, ◌-◌, ◌%◌, ◌^◌, length, drop};
+ghost use Rattle.std.specs.Prelude.{◌≡◌, ◌≤◌, ◌+◌, ◌*◌, ◌-◌, ◌%◌, ◌^◌, length, drop, None};
 ghost use Rattle.scan.specs.Number.{signed, sign, digit_in, digits, magnitude, read_number, read_unsigned, read_guard_number};
 
 use crate::cursor::{Leaf, get, is_digit};
@@ -26,7 +26,7 @@ fn sign_len(neg: bool) -> usize
 }
 
 // The digit that a byte stands for, where the lowest of `base` digits is the byte `low`. The compiler makes one test of
-// the two; `checked_sub` with `?` takes a third more instructions a digit.
+// the two; `checked_sub` with `?` takes more instructions a digit.
 fn digit_in(c: u8, low: u8, base: u8) -> Option<u8>
     ensures { result ≡ digit_in low base c }
 {
@@ -38,8 +38,10 @@ fn digit_in(c: u8, low: u8, base: u8) -> Option<u8>
 }
 
 // Digits up to `@`, behind bytes that are taken already. A bad number is refused at the byte that does not belong.
+// The end is asked for where no digit stands, so that a digit costs no test of it.
 fn read_digits(s: &[u8], at: usize, taken: usize, low: u8, base: u8, first: u32) -> Leaf
-    requires { at + taken ≤ length s.now }
+    requires within { at + taken ≤ length s.now }
+    requires end_is_no_digit { digit_in low base 64 ≡ None }
     ensures { result ≡ digits low base taken first (drop (at + taken) s.now) }
 {
     let mut v = first;
@@ -48,14 +50,12 @@ fn read_digits(s: &[u8], at: usize, taken: usize, low: u8, base: u8, first: u32)
         let Some(c) = get(s, at + n) else {
             break Err(n);
         };
-        if c == b'@' {
-            break Ok((v, n + 1));
-        }
         match digit_in(c, low, base) {
             Some(d) => {
                 v = shifted(v, base as u32, d as u32);
                 n += 1;
             }
+            None if c == b'@' => break Ok((v, n + 1)),
             None => break Err(n),
         }
     }

@@ -34,7 +34,7 @@ pub fn advance(text: &[u8], o: usize, n: usize) -> usize
     if n <= room - o { o + n } else { room + 1 }
 }
 
-// The last byte written, as a number.
+// The last byte written, as a number; 256 where there is none.
 pub fn last_byte(text: &[u8], o: usize) -> u32
     ensures { result ≡ last_at text.now o }
 {

@@ -14,8 +14,8 @@ returns-in_err-c c =
     let p = err_from_is_err_and c.from_residual.result c.from_residual.ensures.1 in
     rw (ended _ (sym c.get.ensures ∙ c.in_err-c.ensures.ok_part), p.1, p.2, refused-at _ c.in_err-c.ensures.value c.in_err-c.ensures.ok_part)
 
-pub read_digits-requires : goal.read_digits-requires
-read_digits-requires c = omega (arith, inside c.args.s.now c.args.at (sym c.get.ensures ∙ c.in_ok-c.ensures.ok_part))
+pub read_digits-requires-clause-within : goal.read_digits-requires-clause-within
+read_digits-requires-clause-within c = omega (arith, inside c.args.s.now c.args.at (sym c.get.ensures ∙ c.in_ok-c.ensures.ok_part))
 
 pub returns-in-48-to-57 : goal.returns-in-48-to-57
 unfolding read_guard_number
